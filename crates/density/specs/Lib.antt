@@ -1,0 +1,5 @@
+pub mod Sum
+pub mod Net
+pub mod Density
+pub mod Top
+pub mod Sheet

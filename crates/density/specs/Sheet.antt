@@ -1,0 +1,48 @@
+-- Sheets of shares. 01, 'Shares'. Assumes nothing.
+use mathlib.Core.Path.{_≡_}
+use Prim.Native.Nat.{ℕ, _+_, _<_, _≤_}
+use lib.Dec.{eqb}
+use lib.IntN.{ℤ, pos, subℕ, _-ℤ_}
+use Rattle.density.specs.Sum.{sum, counted}
+use Rattle.density.specs.Net.{Net}
+
+-- "A sheet for c gives, for each constraint in order, a share for its first end and a share for its second."
+pub record Sheet : Type 0 where
+  pub at-first : ℕ → ℕ
+  pub at-second : ℕ → ℕ
+
+-- both shares of a constraint
+abbrev pub shares : Sheet → ℕ → ℕ
+shares s e = s .at-first e + s .at-second e
+
+-- what the object v receives from the constraint e
+abbrev pub gets : Net → Sheet → ℕ → ℕ → ℕ
+gets d s v e = counted (eqb (d .first e) v) (s .at-first e) + counted (eqb (d .second e) v) (s .at-second e)
+
+-- "the shares received by an object"
+unfoldable pub received : Net → Sheet → ℕ → ℕ
+received d s v = sum (d .constraints) (gets d s v)
+
+pub record Sound (d : Net) (c : ℕ) (s : Sheet) : Type 0 where
+  -- "the two shares of a constraint add up to no more than its weight"
+  pub fits : (e : ℕ) → e < d .constraints → shares s e ≤ d .takes e
+  -- "the shares received by an object add up to no more than its weight"
+  pub room : (v : ℕ) → v < d .objects → received d s v ≤ d .weight v
+  -- "the two ends of c receive nothing"
+  pub first-bare : received d s (d .first c) ≡ 0
+  pub second-bare : received d s (d .second c) ≡ 0
+
+-- "the sum of all constraint weights", and "all shares"
+unfoldable pub total : Net → ℕ
+total d = sum (d .constraints) (d .takes)
+
+unfoldable pub given : Net → Sheet → ℕ
+given d s = sum (d .constraints) (shares s)
+
+-- "The remainder is the sum of all constraint weights less all shares."
+unfoldable pub remainder : Net → Sheet → ℤ
+remainder d s = subℕ (total d) (given d s)
+
+-- "The sheet shows the claim: remainder less the weights of c's two ends."
+unfoldable pub claim : Net → ℕ → Sheet → ℤ
+claim d c s = remainder d s -ℤ pos (d .weight (d .first c) + d .weight (d .second c))

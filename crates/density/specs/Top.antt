@@ -1,0 +1,37 @@
+-- The top density of a constraint and its answer set. 01, 'Density'. Assumes nothing.
+use mathlib.Core.Path.{_≡_}
+use Prim.Native.Nat.{ℕ, _<_, _≤_}
+use lib.Dec.{T}
+use lib.IntN.{ℤ}
+use lib.Signed.{_≤ℤ_, _<ℤ_}
+use Rattle.density.specs.Net.{Net, Set, holds, Inside}
+use Rattle.density.specs.Density.{density}
+
+-- M holds c and has density t
+pub record Reaches (d : Net) (c : ℕ) (t : ℤ) (M : Set) : Type 0 where
+  pub holding : T (holds d M c)
+  pub density-is : density d M ≡ t
+
+-- no set that holds c is denser than t
+pub record Bound (d : Net) (c : ℕ) (t : ℤ) : Type 0 where
+  pub no-denser : (S : Set) → T (holds d S c) → density d S ≤ℤ t
+
+-- "For a constraint c, the top density is the greatest density of a set that holds c."
+pub record Top (d : Net) (c : ℕ) (t : ℤ) : Type 0 where
+  pub set : Set
+  pub reached : Reaches d c t set
+  pub greatest : Bound d c t
+
+-- "The answer set is the one set with top density that lies inside every other such set."
+pub record Answer (d : Net) (c : ℕ) (t : ℤ) (M : Set) : Type 0 where
+  pub reached : Reaches d c t M
+  pub greatest : Bound d c t
+  pub least : (S : Set) → Reaches d c t S → Inside d M S
+
+-- 01, 'The questions', any dense: "the lowest-numbered constraint whose top density is above K"
+pub record LowestAbove (d : Net) (K : ℤ) (c : ℕ) : Type 0 where
+  pub is : c < d .constraints
+  pub top : ℤ
+  pub top-is : Top d c top
+  pub above : K <ℤ top
+  pub lowest : (e : ℕ) (t : ℤ) → e < d .constraints → Top d e t → K <ℤ t → c ≤ e
