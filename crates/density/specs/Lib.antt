@@ -3,3 +3,4 @@ pub mod Net
 pub mod Density
 pub mod Top
 pub mod Sheet
+pub mod Closed

@@ -7,22 +7,24 @@ use mathlib.Core.Bool.{Bool, _&&_}
 use Prim.Native.Nat.{ℕ, _<_}
 use lib.Dec.{T}
 
+-- a constraint's first end, or its second
+pub data Side : Type 0 where
+  first second : Side
+
 pub record Net : Type 0 where
   -- how many objects, and how many constraints
   pub objects : ℕ
   pub constraints : ℕ
   -- the weight of an object; 0 is allowed
   pub weight : ℕ → ℕ
-  -- the two ends of a constraint, and what it takes away
-  pub first : ℕ → ℕ
-  pub second : ℕ → ℕ
+  -- the ends of a constraint, and its weight: what it takes away
+  pub end : Side → ℕ → ℕ
   pub takes : ℕ → ℕ
 
 -- 01, fault 8: no end "names no object", and never are "both ends the same"
 pub record Proper (d : Net) : Type 0 where
-  pub first-is : (e : ℕ) → e < d .constraints → d .first e < d .objects
-  pub second-is : (e : ℕ) → e < d .constraints → d .second e < d .objects
-  pub apart : (e : ℕ) → e < d .constraints → d .first e ≢ d .second e
+  pub named : (i : Side) (e : ℕ) → e < d .constraints → d .end i e < d .objects
+  pub apart : (e : ℕ) → e < d .constraints → d .end first e ≢ d .end second e
 
 abbrev pub Set : Type 0
 Set = ℕ → Bool
@@ -33,4 +35,4 @@ Inside d S R = (v : ℕ) → v < d .objects → T (S v) → T (R v)
 
 -- 01, 'Density': "A set of objects holds a constraint if both its ends are in the set."
 abbrev pub holds : Net → Set → ℕ → Bool
-holds d S e = S (d .first e) && S (d .second e)
+holds d S e = S (d .end first e) && S (d .end second e)

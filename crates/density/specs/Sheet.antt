@@ -4,20 +4,19 @@ use Prim.Native.Nat.{ℕ, _+_, _<_, _≤_}
 use lib.Dec.{eqb}
 use lib.IntN.{ℤ, pos, subℕ, _-ℤ_}
 use Rattle.density.specs.Sum.{sum, counted}
-use Rattle.density.specs.Net.{Net}
+use Rattle.density.specs.Net.{Net, Side, first, second}
 
 -- "A sheet for c gives, for each constraint in order, a share for its first end and a share for its second."
-pub record Sheet : Type 0 where
-  pub at-first : ℕ → ℕ
-  pub at-second : ℕ → ℕ
+abbrev pub Sheet : Type 0
+Sheet = Side → ℕ → ℕ
 
 -- both shares of a constraint
 abbrev pub shares : Sheet → ℕ → ℕ
-shares s e = s .at-first e + s .at-second e
+shares s e = s first e + s second e
 
 -- what the object v receives from the constraint e
 abbrev pub gets : Net → Sheet → ℕ → ℕ → ℕ
-gets d s v e = counted (eqb (d .first e) v) (s .at-first e) + counted (eqb (d .second e) v) (s .at-second e)
+gets d s v e = counted (eqb (d .end first e) v) (s first e) + counted (eqb (d .end second e) v) (s second e)
 
 -- "the shares received by an object"
 unfoldable pub received : Net → Sheet → ℕ → ℕ
@@ -29,8 +28,7 @@ pub record Sound (d : Net) (c : ℕ) (s : Sheet) : Type 0 where
   -- "the shares received by an object add up to no more than its weight"
   pub room : (v : ℕ) → v < d .objects → received d s v ≤ d .weight v
   -- "the two ends of c receive nothing"
-  pub first-bare : received d s (d .first c) ≡ 0
-  pub second-bare : received d s (d .second c) ≡ 0
+  pub bare : (i : Side) → received d s (d .end i c) ≡ 0
 
 -- "the sum of all constraint weights", and "all shares"
 unfoldable pub total : Net → ℕ
@@ -43,6 +41,10 @@ given d s = sum (d .constraints) (shares s)
 unfoldable pub remainder : Net → Sheet → ℤ
 remainder d s = subℕ (total d) (given d s)
 
+-- the weights of c's two ends
+abbrev pub ends-weigh : Net → ℕ → ℕ
+ends-weigh d c = d .weight (d .end first c) + d .weight (d .end second c)
+
 -- "The sheet shows the claim: remainder less the weights of c's two ends."
 unfoldable pub claim : Net → ℕ → Sheet → ℤ
-claim d c s = remainder d s -ℤ pos (d .weight (d .first c) + d .weight (d .second c))
+claim d c s = remainder d s -ℤ pos (ends-weigh d c)
