@@ -1,0 +1,5 @@
+pub mod Tests
+pub mod Sums
+pub mod Integers
+pub mod Balance
+pub mod Shares

@@ -1,0 +1,60 @@
+-- What shares say about density. 01, 'Shares': "A sound sheet proves that no set holding c is denser than its claim."
+-- A set that no route leaves and that is full outside c's ends has exactly the claim, and no route leaves any set that has it;
+-- so the least set that no route leaves is the answer set. Assumes nothing.
+use mathlib.Core.Path.{_≡_, sym, _∙_, subst}
+use Prim.Native.Nat.{ℕ, _+_, _<_}
+use lib.Dec.{T}
+use lib.IntN.{ℤ, subℕ}
+use lib.Signed.{_≤ℤ_}
+use Rattle.density.specs.Net.{Net, Proper, Set, holds, Inside}
+use Rattle.density.specs.Density.{held, free, density}
+use Rattle.density.specs.Top.{Reaches, Bound, Answer}
+use Rattle.density.specs.Sheet.{Sheet, Sound, total, given, remainder, ends-weigh, claim}
+use Rattle.density.specs.Closed.{Closed, Full}
+use Rattle.density.proofs.Integers.{le-of-cross, eq-of-cross, cross-of-eq, sub-less}
+use Rattle.density.proofs.Balance.{cross-le, cross-eq, closed-if-even}
+
+-- the claim as one difference
+pub claim-is : (d : Net) (c : ℕ) (s : Sheet) → claim d c s ≡ subℕ (total d) (given d s + ends-weigh d c)
+unfolding claim remainder
+claim-is d c s = sub-less (total d) (given d s) (ends-weigh d c)
+
+module _ (d : Net) (ok : Proper d) (c : ℕ) (l : c < d .constraints) (s : Sheet) (sound : Sound d c s) where
+  -- "A sound sheet proves that no set holding c is denser than its claim."
+  pub sheet-bounds : Bound d c (claim d c s)
+  unfolding density
+  sheet-bounds =
+      record {
+        no-denser =
+            λ S h.
+            subst (λ (z : ℤ). density d S ≤ℤ z) (sym (claim-is d c s))
+            (le-of-cross (held d S) (free d S) (total d) (given d s + ends-weigh d c) (cross-le d ok c l s sound S h));
+      }
+
+  -- a set that holds c, that no route leaves and that is full outside c's ends has exactly the claim
+  pub closed-reaches : (M : Set) → T (holds d M c) → Closed d s M → Full d c s M → Reaches d c (claim d c s) M
+  unfolding density
+  closed-reaches M h closed full =
+      record {
+        holding = h;
+        density-is =
+            eq-of-cross (held d M) (free d M) (total d) (given d s + ends-weigh d c) (cross-eq d ok c l s sound M h closed full)
+            ∙ sym (claim-is d c s);
+      }
+
+  -- and no route leaves a set that reaches the claim
+  pub reaching-closed : (S : Set) → Reaches d c (claim d c s) S → Closed d s S
+  unfolding density
+  reaching-closed S r =
+      closed-if-even d ok c l s sound S (r .holding)
+      (cross-of-eq (held d S) (free d S) (total d) (given d s + ends-weigh d c) (r .density-is ∙ claim-is d c s))
+
+  -- so the least such set is the answer set
+  pub least-closed-answers : (M : Set) → T (holds d M c) → Closed d s M → Full d c s M
+      → ((S : Set) → T (holds d S c) → Closed d s S → Inside d M S) → Answer d c (claim d c s) M
+  least-closed-answers M h closed full least =
+      record {
+        reached = closed-reaches M h closed full;
+        greatest = sheet-bounds;
+        least = λ S r. least S (r .holding) (reaching-closed S r);
+      }

@@ -1,0 +1,90 @@
+-- Laws of finite sums. Assumes nothing.
+use mathlib.Core.Path.{_≡_, refl, sym, _∙_, ap, ap₂, subst}
+use mathlib.Core.Logic.{_≢_}
+use mathlib.Core.Bool.{Bool, true, false, _&&_}
+use Prim.Native.Nat.{ℕ, zero, suc, _+_, _≤_, _<_}
+use native.Mathlib.Nat.{le-refl, le-of-lt}
+use native.Mathlib.Omega.{arith}
+use native.Mathlib.Decide.{ℕ-discrete}
+use borrow.Author.Tests.{eq-eqb, ne-eqb}
+use lib.Dec.{T, eqb}
+use Rattle.density.specs.Sum.{sum, counted}
+
+-- terms that agree below k have one sum
+pub sum-same : (k : ℕ) (f g : ℕ → ℕ) → ((i : ℕ) → i < k → f i ≡ g i) → sum k f ≡ sum k g
+unfolding sum
+sum-same zero f g h = refl
+sum-same (suc k) f g h =
+    ap₂ (λ (a b : ℕ). a + b) (sum-same k f g (λ i l. h i (omega arith))) (h k (omega arith))
+
+pub sum-le : (k : ℕ) (f g : ℕ → ℕ) → ((i : ℕ) → i < k → f i ≤ g i) → sum k f ≤ sum k g
+unfolding sum
+sum-le zero f g h = omega arith
+sum-le (suc k) f g h = omega (arith, sum-le k f g (λ i l. h i (omega arith)), h k (omega arith))
+
+pub sum-add : (k : ℕ) (f g : ℕ → ℕ) → sum k (λ i. f i + g i) ≡ sum k f + sum k g
+unfolding sum
+sum-add zero f g = refl
+sum-add (suc k) f g = omega (arith, sum-add k f g)
+
+pub sum-zero : (k : ℕ) (f : ℕ → ℕ) → ((i : ℕ) → i < k → f i ≡ 0) → sum k f ≡ 0
+unfolding sum
+sum-zero zero f h = refl
+sum-zero (suc k) f h = omega (arith, sum-zero k f (λ i l. h i (omega arith)), h k (omega arith))
+
+-- where f is at most g everywhere, what g i has over f i shows in the sums
+pub sum-gap : (k : ℕ) (f g : ℕ → ℕ) → ((i : ℕ) → i < k → f i ≤ g i) → (i : ℕ) → i < k → sum k f + g i ≤ sum k g + f i
+unfolding sum
+sum-gap zero f g h i l = absurd (omega arith)
+sum-gap (suc k) f g h i l = go (ℕ-discrete i k) (sum-gap k f g (λ j m. h j (omega arith)) i)
+  where
+    go : Dec (i ≡ k) → (i < k → sum k f + g i ≤ sum k g + f i) → sum k f + f k + g i ≤ sum k g + g k + f i
+    go (yes e) rest = omega (arith, sum-le k f g (λ j m. h j (omega arith)), ap f e, ap g e)
+    go (no e) rest = omega (arith, rest (omega arith), h k (omega arith))
+
+-- the order of two sums can be exchanged
+pub sum-swap : (k l : ℕ) (f : ℕ → ℕ → ℕ) → sum k (λ i. sum l (f i)) ≡ sum l (λ j. sum k (λ i. f i j))
+unfolding sum
+sum-swap zero l f = sym (sum-zero l (λ _. 0) (λ i _. refl))
+sum-swap (suc k) l f =
+    ap (λ (x : ℕ). x + sum l (f k)) (sum-swap k l f) ∙ sym (sum-add l (λ j. sum k (λ i. f i j)) (f k))
+
+pub counted-sum : (b : Bool) (k : ℕ) (f : ℕ → ℕ) → counted b (sum k f) ≡ sum k (λ i. counted b (f i))
+counted-sum true k f = refl
+counted-sum false k f = sym (sum-zero k (λ _. 0) (λ i _. refl))
+
+pub counted-yes : (b : Bool) (x : ℕ) → T b → counted b x ≡ x
+counted-yes true x t = refl
+counted-yes false x t = absurd t
+
+pub counted-no : (b : Bool) (x : ℕ) → (T b → ⊥) → counted b x ≡ 0
+counted-no true x t = absurd (t tt)
+counted-no false x t = refl
+
+pub counted-le : (b : Bool) (x : ℕ) → counted b x ≤ x
+counted-le true x = le-refl x
+counted-le false x = omega arith
+
+pub counted-both : (a b : Bool) (x : ℕ) → counted a (counted b x) ≡ counted (a && b) x
+counted-both true b x = refl
+counted-both false b x = refl
+
+-- a sum with one term: that of index i
+pub sum-one : (k i : ℕ) (f : ℕ → ℕ) → i < k → sum k (λ j. counted (eqb i j) (f j)) ≡ f i
+unfolding sum
+sum-one zero i f l = absurd (omega arith)
+sum-one (suc k) i f l = go (ℕ-discrete i k) (sum-one k i f)
+  where
+    other : (j : ℕ) → i ≢ j → counted (eqb i j) (f j) ≡ 0
+    other j n = ap (λ (b : Bool). counted b (f j)) (ne-eqb i j n)
+
+    go : Dec (i ≡ k) → (i < k → sum k (λ j. counted (eqb i j) (f j)) ≡ f i)
+        → sum k (λ j. counted (eqb i j) (f j)) + counted (eqb i k) (f k) ≡ f i
+    go (yes e) rest =
+        omega (
+          arith,
+          sum-zero k (λ j. counted (eqb i j) (f j)) (λ j m. other j (λ q. omega arith)),
+          ap (λ (b : Bool). counted b (f k)) (eq-eqb i k e),
+          ap f e,
+        )
+    go (no n) rest = omega (arith, rest (omega arith), other k n)
