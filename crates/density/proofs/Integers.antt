@@ -112,3 +112,10 @@ sub-less a b w = go (cut a b) w
     go (up p e r) (suc k) = ap (λ (z : ℤ). z -ℤ pos (suc k)) r ∙ eq-of-cross p (suc k) a (b + suc k) (omega arith)
     go (down p e r) zero = ap (λ (z : ℤ). z -ℤ pos 0) r ∙ eq-of-cross 0 (suc p) a (b + 0) (omega arith)
     go (down p e r) (suc k) = ap (λ (z : ℤ). z -ℤ pos (suc k)) r ∙ sym (sub-down a (b + suc k) (suc (p + k)) (omega arith))
+
+pub ≤ℤ-trans : {x y z : ℤ} → x ≤ℤ y → y ≤ℤ z → x ≤ℤ z
+≤ℤ-trans {x} {y} {z} h k = go (lt-or-le z x)
+  where
+    go : (z <ℤ x) ⊎ (x ≤ℤ z) → x ≤ℤ z
+    go (inl l) = clashℤ (<ℤ-≤ℤ-trans l h) k
+    go (inr r) = r

@@ -3,3 +3,8 @@ pub mod Sums
 pub mod Integers
 pub mod Balance
 pub mod Shares
+pub mod Lattice
+pub mod Alike
+pub mod Subsets
+pub mod Exists
+pub mod One

@@ -28,6 +28,14 @@ pub record Answer (d : Net) (c : ℕ) (t : ℤ) (M : Set) : Type 0 where
   pub greatest : Bound d c t
   pub least : (S : Set) → Reaches d c t S → Inside d M S
 
+-- none at K: no constraint has a top density above K
+abbrev pub NoneAt : Net → ℤ → Type 0
+NoneAt d K = (c : ℕ) (t : ℤ) → c < d .constraints → Top d c t → t ≤ℤ K
+
+-- no set that holds a constraint has density above K
+abbrev pub NoSetAbove : Net → ℤ → Type 0
+NoSetAbove d K = (c : ℕ) → c < d .constraints → Bound d c K
+
 -- 01, 'The questions', any dense: "the lowest-numbered constraint whose top density is above K"
 pub record LowestAbove (d : Net) (K : ℤ) (c : ℕ) : Type 0 where
   pub is : c < d .constraints

@@ -1,0 +1,119 @@
+-- For every constraint of every net the answer set exists. 01, 'Density': "That it exists is part of the work."
+-- Among the finitely many sets that hold c one is densest, and among the densest one has fewest objects: two densest sets share a
+-- densest set, so the smallest lies inside every other. No code is needed for it. Assumes nothing.
+use mathlib.Core.Path.{_≡_, refl, sym, _∙_, ap, ap₂, subst}
+use mathlib.Core.Bool.{Bool, true, false, not, _&&_}
+use Prim.Native.Nat.{ℕ, suc, _+_, _-_, _≤_, _<_}
+use native.Mathlib.Nat.{le-refl}
+use native.Mathlib.Omega.{arith}
+use lib.Dec.{T, eqb, eqb→eq, eqb-refl}
+use lib.IntN.{ℤ}
+use Rattle.density.specs.Sum.{sum, counted}
+use Rattle.density.specs.Net.{Net, Proper, Set, Side, first, second, holds, Inside}
+use Rattle.density.specs.Density.{held, free, density}
+use Rattle.density.specs.Top.{Reaches, Bound, Top, Answer}
+use Rattle.density.proofs.Tests.{and-left, and-right, and-both}
+use Rattle.density.proofs.Sums.{sum-same, sum-le, sum-gap, counted-le, counted-yes}
+use Rattle.density.proofs.Integers.{le-of-cross, eq-of-cross, cross-of-eq}
+use Rattle.density.proofs.Alike.{Alike, holds-alike, held-alike, free-alike}
+use Rattle.density.proofs.Subsets.{Best, best}
+use Rattle.density.proofs.Lattice.{meet, meet-reaches}
+
+-- how many objects a set leaves out, and all that objects weigh
+abbrev outside : Set → ℕ → ℕ
+outside S v = counted (not (S v)) 1
+
+left-out : Net → Set → ℕ
+left-out d S = sum (d .objects) (outside S)
+
+all-weigh : Net → ℕ
+all-weigh d = sum (d .objects) (d .weight)
+
+free-le : (d : Net) (S : Set) → free d S ≤ all-weigh d
+unfolding free all-weigh
+free-le d S = sum-le (d .objects) (λ v. counted (S v) (d .weight v)) (d .weight) (λ v _. counted-le (S v) (d .weight v))
+
+-- some top density of c, with its answer set
+pub record Answered (d : Net) (c : ℕ) : Type 0 where
+  pub top : ℤ
+  pub set : Set
+  pub answer : Answer d c top set
+
+module _ (d : Net) (ok : Proper d) (c : ℕ) (l : c < d .constraints) where
+  abbrev everything : Set
+  everything v = true
+
+  -- the densest
+  densest : Best (λ S. holds d S c) (λ S. held d S + (all-weigh d - free d S))
+  densest =
+      best (d .objects) (λ S. holds d S c) (λ S. held d S + (all-weigh d - free d S)) (λ S R h. holds-alike d ok S R h c l)
+      (λ S R h. ap₂ (λ (x y : ℕ). x + (all-weigh d - y)) (held-alike d ok S R h) (free-alike d ok S R h))
+      everything
+      tt
+
+  abbrev D : Set
+  D = densest .set
+
+  bound : Bound d c (density d D)
+  unfolding density
+  bound =
+      record {
+        no-denser =
+            λ S h.
+            le-of-cross (held d S) (free d S) (held d D) (free d D) (omega (arith, densest .most S h, free-le d S, free-le d D));
+      }
+
+  -- a set that holds c and is as dense
+  abbrev as-dense : Set → Bool
+  as-dense S = holds d S c && eqb (held d S + free d D) (held d D + free d S)
+
+  reaches : (S : Set) → T (as-dense S) → Reaches d c (density d D) S
+  unfolding density
+  reaches S t =
+      record {
+        holding = and-left (holds d S c) (eqb (held d S + free d D) (held d D + free d S)) t;
+        density-is =
+            eq-of-cross (held d S) (free d S) (held d D) (free d D)
+            (eqb→eq (held d S + free d D) (held d D + free d S) (and-right (holds d S c) (eqb (held d S + free d D) (held d D + free d S)) t));
+      }
+
+  reached : (S : Set) → Reaches d c (density d D) S → T (as-dense S)
+  unfolding density
+  reached S r =
+      and-both (holds d S c) (eqb (held d S + free d D) (held d D + free d S)) (r .holding)
+      (subst (λ (x : ℕ). T (eqb (held d S + free d D) x)) (cross-of-eq (held d S) (free d S) (held d D) (free d D) (r .density-is)) (eqb-refl (held d S + free d D)))
+
+  -- the smallest of them
+  smallest : Best as-dense (λ S. left-out d S)
+  unfolding left-out
+  smallest =
+      best (d .objects) as-dense (λ S. left-out d S)
+      (λ S R h. ap₂ _&&_ (holds-alike d ok S R h c l) (ap₂ (λ (x y : ℕ). eqb (x + free d D) (held d D + y)) (held-alike d ok S R h) (free-alike d ok S R h)))
+      (λ S R h. sum-same (d .objects) (outside S) (outside R) (λ v lv. ap (λ (b : Bool). counted (not b) 1) (h v lv)))
+      D
+      (reached D (record { holding = densest .passes; density-is = refl }))
+
+  abbrev M : Set
+  M = smallest .set
+
+  -- the smallest lies inside every other, since it shares a densest set with it
+  inside : (S : Set) → Reaches d c (density d D) S → Inside d M S
+  unfolding left-out
+  inside S r v lv t = kept (S v) (M v) (omega (arith, sum-gap (d .objects) (outside M) (outside (meet S M)) (λ u _. more (S u) (M u)) v lv, fewest)) t
+    where
+      fewest : sum (d .objects) (outside (meet S M)) ≤ sum (d .objects) (outside M)
+      fewest = smallest .most (meet S M) (reached (meet S M) (meet-reaches d c (density d D) bound S M r (reaches M (smallest .passes))))
+
+      more : (p q : Bool) → counted (not q) 1 ≤ counted (not (p && q)) 1
+      more true q = le-refl (counted (not q) 1)
+      more false true = omega arith
+      more false false = omega arith
+
+      kept : (p q : Bool) → counted (not (p && q)) 1 ≤ counted (not q) 1 → T q → T p
+      kept true q h t = tt
+      kept false true h t = omega arith
+      kept false false h t = t
+
+  pub answer-exists : Answered d c
+  answer-exists =
+      record { top = density d D; set = M; answer = record { reached = reaches M (smallest .passes); greatest = bound; least = inside } }
