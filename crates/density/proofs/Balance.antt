@@ -15,7 +15,7 @@ use Rattle.density.specs.Density.{held, free}
 use Rattle.density.specs.Sheet.{Sheet, shares, gets, received, Sound, total, given, ends-weigh}
 use Rattle.density.specs.Closed.{Closed, Full}
 use Rattle.density.proofs.Tests.{and-left, and-right, tested}
-use Rattle.density.proofs.Sums.{sum-same, sum-le, sum-add, sum-gap, sum-swap, sum-one, counted-sum, counted-yes, counted-no}
+use Rattle.density.proofs.Sums.{sum-same, sum-le, sum-add, sum-gap, sum-swap, sum-one, sum-at, counted-add, counted-sum, counted-yes, counted-no}
 
 -- the shares of e that land in S
 lands : Net → Sheet → Set → ℕ → ℕ
@@ -24,22 +24,6 @@ lands d s S e = counted (S (d .end first e)) (s first e) + counted (S (d .end se
 -- all that lands in S, summed over the constraints, or over the objects
 landed : Net → Sheet → Set → ℕ
 landed d s S = sum (d .constraints) (lands d s S)
-
-lands-one : (n a x : ℕ) (S : Set) → a < n → sum n (λ v. counted (S v) (counted (eqb a v) x)) ≡ counted (S a) x
-lands-one n a x S l =
-    sum-same n (λ v. counted (S v) (counted (eqb a v) x)) (λ v. counted (eqb a v) (counted (S v) x))
-    (λ v _. exchange (S v) (eqb a v))
-    ∙ sum-one n a (λ v. counted (S v) x) l
-  where
-    exchange : (p q : Bool) → counted p (counted q x) ≡ counted q (counted p x)
-    exchange true true = refl
-    exchange true false = refl
-    exchange false true = refl
-    exchange false false = refl
-
-counted-add : (b : Bool) (x y : ℕ) → counted b (x + y) ≡ counted b x + counted b y
-counted-add true x y = refl
-counted-add false x y = refl
 
 landed-is : (d : Net) → Proper d → (s : Sheet) (S : Set) → sum (d .objects) (λ v. counted (S v) (received d s v)) ≡ landed d s S
 unfolding received landed lands
@@ -63,8 +47,8 @@ landed-is d ok s S =
         sum-same n (λ v. counted (S v) (gets d s v e)) (λ v. at first e v + at second e v)
         (λ v _. counted-add (S v) (counted (eqb (d .end first e) v) (s first e)) (counted (eqb (d .end second e) v) (s second e)))
         ∙ sum-add n (at first e) (at second e)
-        ∙ ap₂ (λ (x y : ℕ). x + y) (lands-one n (d .end first e) (s first e) S (ok .named first e l))
-        (lands-one n (d .end second e) (s second e) S (ok .named second e l))
+        ∙ ap₂ (λ (x y : ℕ). x + y) (sum-at n (d .end first e) (s first e) S (ok .named first e l))
+        (sum-at n (d .end second e) (s second e) S (ok .named second e l))
 
 -- ---- the balance over the constraints: at one of them, with its ends in the set (p, r) or not, weight q and shares x, y
 

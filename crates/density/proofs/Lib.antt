@@ -8,3 +8,6 @@ pub mod Alike
 pub mod Subsets
 pub mod Exists
 pub mod One
+pub mod Pairs
+pub mod Listing
+pub mod Changes

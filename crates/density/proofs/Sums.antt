@@ -5,7 +5,7 @@ use mathlib.Core.Bool.{Bool, true, false, _&&_}
 use Prim.Native.Nat.{ℕ, zero, suc, _+_, _≤_, _<_}
 use native.Mathlib.Nat.{le-refl, le-of-lt}
 use native.Mathlib.Omega.{arith}
-use native.Mathlib.Decide.{ℕ-discrete}
+use native.Mathlib.Decide.{ℕ-discrete, decLt}
 use borrow.Author.Tests.{eq-eqb, ne-eqb}
 use lib.Dec.{T, eqb}
 use Rattle.density.specs.Sum.{sum, counted}
@@ -88,3 +88,35 @@ sum-one (suc k) i f l = go (ℕ-discrete i k) (sum-one k i f)
           ap f e,
         )
     go (no n) rest = omega (arith, rest (omega arith), other k n)
+
+pub counted-add : (b : Bool) (x y : ℕ) → counted b (x + y) ≡ counted b x + counted b y
+counted-add true x y = refl
+counted-add false x y = refl
+
+pub counted-swap : (a b : Bool) (x : ℕ) → counted a (counted b x) ≡ counted b (counted a x)
+counted-swap true b x = refl
+counted-swap false true x = refl
+counted-swap false false x = refl
+
+-- x stands at a alone, and is counted where the test holds at a
+pub sum-at : (n a x : ℕ) (p : ℕ → Bool) → a < n → sum n (λ v. counted (p v) (counted (eqb a v) x)) ≡ counted (p a) x
+sum-at n a x p l =
+    sum-same n (λ v. counted (p v) (counted (eqb a v) x)) (λ v. counted (eqb a v) (counted (p v) x)) (λ v _. counted-swap (p v) (eqb a v) x)
+    ∙ sum-one n a (λ v. counted (p v) x) l
+
+-- a term is at most the sum, and a sum that is not 0 has a term that is not
+pub term-le : (k : ℕ) (f : ℕ → ℕ) (i : ℕ) → i < k → f i ≤ sum k f
+term-le k f i l = omega (arith, sum-gap k (λ _. 0) f (λ _ _. omega arith) i l, sum-zero k (λ _. 0) (λ _ _. refl))
+
+pub some-term : (k : ℕ) (f : ℕ → ℕ) → 0 < sum k f → (i : ℕ) × (i < k) × (0 < f i)
+unfolding sum
+some-term zero f h = absurd (omega arith)
+some-term (suc k) f h = go (decLt 0 (f k)) (some-term k f)
+  where
+    go : Dec (0 < f k) → (0 < sum k f → (i : ℕ) × (i < k) × (0 < f i)) → (i : ℕ) × (i < suc k) × (0 < f i)
+    go (yes p) rest = (k, omega arith, p)
+    go (no n) rest = let r = rest (omega arith) in (r .0, omega (arith, r .1), r .2)
+
+pub counted-some : (b : Bool) (x : ℕ) → 0 < counted b x → T b
+counted-some true x h = tt
+counted-some false x h = omega arith

@@ -4,3 +4,5 @@ pub mod Density
 pub mod Top
 pub mod Sheet
 pub mod Closed
+pub mod Listing
+pub mod Change
