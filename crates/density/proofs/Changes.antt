@@ -1,14 +1,14 @@
 -- Each of the four changes gives two listings of one drawing, and so does every sequence of them; what a constraint becomes by a change
 -- corresponds to it. Assumes nothing.
 use mathlib.Core.Path.{_≡_, refl, sym, _∙_, ap, ap₂, subst}
-use mathlib.Core.Bool.{Bool, true, false, _&&_, and-comm}
+use mathlib.Core.Bool.{Bool, _&&_, and-comm}
 use mathlib.Core.Logic.{_⊎_, inl, inr}
 use Prim.Native.Nat.{ℕ, _+_, _<_}
 use native.Mathlib.Omega.{arith}
 use lib.Dec.{T, eqb, eqb-refl}
 use Rattle.density.specs.Sum.{sum, counted}
 use Rattle.density.specs.Net.{Net, Proper, Side, first, second}
-use Rattle.density.specs.Listing.{goes, between, Matching, Listings, Corresponds}
+use Rattle.density.specs.Listing.{goes, between, Listings, Corresponds}
 use Rattle.density.specs.Change.{Renumbered, SameObjects, Reordered, Exchanged, Joined, Change, renumbered, reordered, exchanged, joined, becomes, Changes, unchanged, made, undone}
 use Rattle.density.proofs.Tests.{and-both}
 use Rattle.density.proofs.Sums.{sum-same, sum-add, sum-swap, sum-one, sum-at, counted-sum}

@@ -1,21 +1,21 @@
 -- For every constraint of every net the answer set exists. 01, 'Density': "That it exists is part of the work."
 -- Among the finitely many sets that hold c one is densest, and among the densest one has fewest objects: two densest sets share a
 -- densest set, so the smallest lies inside every other. No code is needed for it. Assumes nothing.
-use mathlib.Core.Path.{_≡_, refl, sym, _∙_, ap, ap₂, subst}
+use mathlib.Core.Path.{refl, ap, ap₂, subst}
 use mathlib.Core.Bool.{Bool, true, false, not, _&&_}
-use Prim.Native.Nat.{ℕ, suc, _+_, _-_, _≤_, _<_}
+use Prim.Native.Nat.{ℕ, _+_, _-_, _≤_, _<_}
 use native.Mathlib.Nat.{le-refl}
 use native.Mathlib.Omega.{arith}
 use lib.Dec.{T, eqb, eqb→eq, eqb-refl}
 use lib.IntN.{ℤ}
 use Rattle.density.specs.Sum.{sum, counted}
-use Rattle.density.specs.Net.{Net, Proper, Set, Side, first, second, holds, Inside}
+use Rattle.density.specs.Net.{Net, Proper, Set, holds, Inside}
 use Rattle.density.specs.Density.{held, free, density}
-use Rattle.density.specs.Top.{Reaches, Bound, Top, Answer}
+use Rattle.density.specs.Top.{Reaches, Bound, Answer}
 use Rattle.density.proofs.Tests.{and-left, and-right, and-both}
-use Rattle.density.proofs.Sums.{sum-same, sum-le, sum-gap, counted-le, counted-yes}
+use Rattle.density.proofs.Sums.{sum-same, sum-le, sum-gap, counted-le}
 use Rattle.density.proofs.Integers.{le-of-cross, eq-of-cross, cross-of-eq}
-use Rattle.density.proofs.Alike.{Alike, holds-alike, held-alike, free-alike}
+use Rattle.density.proofs.Alike.{holds-alike, held-alike, free-alike}
 use Rattle.density.proofs.Subsets.{Best, best}
 use Rattle.density.proofs.Lattice.{meet, meet-reaches}
 

@@ -3,13 +3,13 @@
 use mathlib.Core.Path.{_≡_, refl, sym, _∙_, subst, subst₂}
 use mathlib.Core.Logic.{_⊎_, inl, inr}
 use mathlib.Core.Bool.{Bool, true, false, _&&_, _||_}
-use Prim.Native.Nat.{ℕ, _+_, _≤_, _<_}
+use Prim.Native.Nat.{ℕ, _+_, _≤_}
 use native.Mathlib.Omega.{arith}
 use lib.Dec.{T}
 use lib.IntN.{ℤ}
 use lib.Signed.{_≤ℤ_}
-use Rattle.density.specs.Sum.{sum, counted}
-use Rattle.density.specs.Net.{Net, Set, Side, first, second, holds}
+use Rattle.density.specs.Sum.{counted}
+use Rattle.density.specs.Net.{Net, Set, first, second, holds}
 use Rattle.density.specs.Density.{held, free, density}
 use Rattle.density.specs.Top.{Reaches, Bound}
 use Rattle.density.proofs.Tests.{and-left, and-right, and-both, or-left, or-right, tested}

@@ -11,3 +11,5 @@ pub mod One
 pub mod Pairs
 pub mod Listing
 pub mod Changes
+pub mod Table
+pub mod Errors

@@ -1,16 +1,16 @@
 -- One drawing, one answer: two listings of one drawing give corresponding constraints the same top density and the same answer set,
 -- renumbered, and at each K both have a dense set or neither has. Assumes nothing.
 use mathlib.Core.Path.{_≡_, refl, sym, _∙_, ap, ap₂, subst}
-use mathlib.Core.Bool.{Bool, true, false, _&&_, and-comm}
+use mathlib.Core.Bool.{_&&_, and-comm}
 use mathlib.Core.Logic.{_↔_, _⊎_, inl, inr}
-use Prim.Native.Nat.{ℕ, zero, suc, _+_, _≤_, _<_}
+use Prim.Native.Nat.{ℕ, _+_, _<_}
 use native.Mathlib.Omega.{arith}
 use lib.Dec.{T, eqb, eqb→eq, eqb-refl}
 use lib.IntN.{ℤ, subℕ}
 use lib.Signed.{_≤ℤ_, _<ℤ_}
 use Rattle.density.specs.Sum.{sum, counted}
-use Rattle.density.specs.Net.{Net, Proper, Set, Side, first, second, holds, Inside}
-use Rattle.density.specs.Density.{held, free, density, Dense, HasDense}
+use Rattle.density.specs.Net.{Net, Proper, Set, first, second, holds}
+use Rattle.density.specs.Density.{held, free, density, HasDense}
 use Rattle.density.specs.Top.{Reaches, Bound, Top, Answer}
 use Rattle.density.specs.Listing.{goes, between, Matching, Listings, Corresponds, image, Heavy}
 use Rattle.density.proofs.Tests.{and-left, and-right, and-both, tested}

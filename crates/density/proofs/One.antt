@@ -1,6 +1,6 @@
 -- One answer: two top densities of a constraint agree, two answer sets agree on every object, and 'none at K' is said in three ways
 -- that mean the same. The lowest-numbered constraint above K is one, and it is there unless there is none at K. Assumes nothing.
-use mathlib.Core.Path.{_≡_, refl, sym, _∙_, subst}
+use mathlib.Core.Path.{_≡_, refl, sym, subst}
 use mathlib.Core.Bool.{Bool, true, false}
 use mathlib.Core.Logic.{_↔_, _⊎_, inl, inr}
 use Prim.Native.Nat.{ℕ, zero, suc, _≤_, _<_}
@@ -11,7 +11,7 @@ use lib.Dec.{T}
 use lib.IntN.{ℤ}
 use lib.Signed.{_≤ℤ_, _<ℤ_, clashℤ}
 use Rattle.density.specs.Net.{Net, Proper, Set, holds}
-use Rattle.density.specs.Density.{density, Dense, HasDense, NoneDense}
+use Rattle.density.specs.Density.{density, NoneDense}
 use Rattle.density.specs.Top.{Reaches, Bound, Top, Answer, NoneAt, NoSetAbove, LowestAbove}
 use Rattle.density.proofs.Alike.{Alike}
 use Rattle.density.proofs.Integers.{lt-or-le, ≤ℤ-antisym, ≤ℤ-trans}

@@ -1,6 +1,5 @@
 -- The density of a set. 01, 'Density'. Assumes nothing.
 use Prim.Native.Nat.{ℕ, _<_}
-use mathlib.Core.Bool.{Bool}
 use lib.Dec.{T}
 use lib.IntN.{ℤ, subℕ}
 use lib.Signed.{_<ℤ_}

@@ -6,3 +6,5 @@ pub mod Sheet
 pub mod Closed
 pub mod Listing
 pub mod Change
+pub mod Example
+pub mod Right

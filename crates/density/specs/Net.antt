@@ -1,7 +1,6 @@
 -- A net: what a drawing is to the counter. 01, 'What it covers': "A drawing is a list of objects and a list of constraints,
 -- each between two objects .. Objects and constraints are each numbered from 0". Only weights are left: no kinds, no bytes, no limits.
 -- A set of objects is a test on their numbers. Assumes nothing.
-use mathlib.Core.Path.{_≡_}
 use mathlib.Core.Logic.{_≢_}
 use mathlib.Core.Bool.{Bool, _&&_}
 use Prim.Native.Nat.{ℕ, _<_}
