@@ -12,11 +12,11 @@ use lib.IntN.{ℤ, pos, negsuc, subℕ, _-ℤ_}
 use lib.Signed.{_≤ℤ_, _<ℤ_, ltZ, ltZ-yes, ltZ-no, ≤ℤ-refl, <ℤ-≤ℤ-trans, clashℤ}
 
 -- a - b as antt has it: the sign, and how far from 0
-data Cut (a b : ℕ) : Type 0 where
+pub data Cut (a b : ℕ) : Type 0 where
   up : (p : ℕ) → a ≡ b + p → subℕ a b ≡ pos p → Cut a b
   down : (p : ℕ) → a + suc p ≡ b → subℕ a b ≡ negsuc p → Cut a b
 
-cut : (a b : ℕ) → Cut a b
+pub cut : (a b : ℕ) → Cut a b
 cut a b = go (ltb a b) refl
   where
     go : (t : Bool) → ltb a b ≡ t → Cut a b

@@ -1,6 +1,6 @@
 -- One answer: two top densities of a constraint agree, two answer sets agree on every object, and 'none at K' is said in three ways
 -- that mean the same. The lowest-numbered constraint above K is one, and it is there unless there is none at K. Assumes nothing.
-use mathlib.Core.Path.{_≡_, refl, sym, subst}
+use mathlib.Core.Path.{_≡_, refl, sym, _∙_, subst}
 use mathlib.Core.Bool.{Bool, true, false}
 use mathlib.Core.Logic.{_↔_, _⊎_, inl, inr}
 use Prim.Native.Nat.{ℕ, zero, suc, _≤_, _<_}
@@ -13,7 +13,7 @@ use lib.Signed.{_≤ℤ_, _<ℤ_, clashℤ}
 use Rattle.density.specs.Net.{Net, Proper, Set, holds}
 use Rattle.density.specs.Density.{density, NoneDense}
 use Rattle.density.specs.Top.{Reaches, Bound, Top, Answer, NoneAt, NoSetAbove, LowestAbove}
-use Rattle.density.proofs.Alike.{Alike}
+use Rattle.density.proofs.Alike.{Alike, holds-alike, density-alike}
 use Rattle.density.proofs.Integers.{lt-or-le, ≤ℤ-antisym, ≤ℤ-trans}
 use Rattle.density.proofs.Exists.{Answered, answer-exists}
 
@@ -40,6 +40,15 @@ answers-agree d c t u M R a b =
   where
     same : t ≡ u
     same = tops-agree d c t u (answer-top d c t M a) (answer-top d c u R b)
+
+-- a set that agrees with the answer set on every object is the answer set
+pub answer-alike : (d : Net) → Proper d → (c : ℕ) → c < d .constraints → (t : ℤ) (M R : Set) → Alike (d .objects) M R → Answer d c t M → Answer d c t R
+answer-alike d ok c l t M R h a =
+    record {
+      reached = record { holding = subst T (holds-alike d ok M R h c l) (a .reached .holding); density-is = sym (density-alike d ok M R h) ∙ a .reached .density-is };
+      greatest = a .greatest;
+      least = λ S r v lv x. a .least S r v lv (subst T (sym (h v lv)) x);
+    }
 
 -- ---- none at K
 

@@ -1,16 +1,18 @@
 -- What shares say about density. 01, 'Shares': "A sound sheet proves that no set holding c is denser than its claim."
 -- A set that no route leaves and that is full outside c's ends has exactly the claim, and no route leaves any set that has it;
 -- so the least set that no route leaves is the answer set. Assumes nothing.
-use mathlib.Core.Path.{_≡_, sym, _∙_, subst}
-use Prim.Native.Nat.{ℕ, _+_, _<_}
-use lib.Dec.{T}
-use lib.IntN.{ℤ, subℕ}
+use mathlib.Core.Path.{_≡_, sym, _∙_, ap, ap₂, subst}
+use Prim.Native.Nat.{ℕ, _+_, _≤_, _<_}
+use lib.Dec.{T, eqb}
+use lib.IntN.{ℤ, pos, subℕ, _-ℤ_}
 use lib.Signed.{_≤ℤ_}
-use Rattle.density.specs.Net.{Net, Proper, Set, holds, Inside}
+use Rattle.density.specs.Sum.{counted}
+use Rattle.density.specs.Net.{Net, Proper, Set, Side, first, second, holds, Inside}
 use Rattle.density.specs.Density.{held, free, density}
 use Rattle.density.specs.Top.{Reaches, Bound, Answer}
-use Rattle.density.specs.Sheet.{Sheet, Sound, total, given, remainder, ends-weigh, claim}
+use Rattle.density.specs.Sheet.{Sheet, shares, gets, received, Sound, total, given, remainder, ends-weigh, claim}
 use Rattle.density.specs.Closed.{Closed, Full}
+use Rattle.density.proofs.Sums.{sum-same}
 use Rattle.density.proofs.Integers.{le-of-cross, eq-of-cross, cross-of-eq, sub-less}
 use Rattle.density.proofs.Balance.{cross-le, cross-eq, closed-if-even}
 
@@ -18,6 +20,30 @@ use Rattle.density.proofs.Balance.{cross-le, cross-eq, closed-if-even}
 pub claim-is : (d : Net) (c : ℕ) (s : Sheet) → claim d c s ≡ subℕ (total d) (given d s + ends-weigh d c)
 unfolding claim remainder
 claim-is d c s = sub-less (total d) (given d s) (ends-weigh d c)
+
+-- what a sheet shows depends on the shares of the net's constraints alone
+module _ (d : Net) (s r : Sheet) (same : (i : Side) (e : ℕ) → e < d .constraints → s i e ≡ r i e) where
+  received-same : (v : ℕ) → received d s v ≡ received d r v
+  unfolding received
+  received-same v =
+      sum-same (d .constraints) (gets d s v) (gets d r v)
+      (λ e l.
+      ap₂ (λ (x y : ℕ). counted (eqb (d .end first e) v) x + counted (eqb (d .end second e) v) y) (same first e l) (same second e l))
+
+  shares-same : (e : ℕ) → e < d .constraints → shares s e ≡ shares r e
+  shares-same e l = ap₂ _+_ (same first e l) (same second e l)
+
+  pub sound-same : (c : ℕ) → Sound d c s → Sound d c r
+  sound-same c sound =
+      record {
+        fits = λ e l. subst (λ (x : ℕ). x ≤ d .takes e) (shares-same e l) (sound .fits e l);
+        room = λ v l. subst (λ (x : ℕ). x ≤ d .weight v) (received-same v) (sound .room v l);
+        bare = λ i. sym (received-same (d .end i c)) ∙ sound .bare i;
+      }
+
+  pub claim-same : (c : ℕ) → claim d c s ≡ claim d c r
+  unfolding claim remainder given
+  claim-same c = ap (λ (x : ℕ). subℕ (total d) x -ℤ pos (ends-weigh d c)) (sum-same (d .constraints) (shares s) (shares r) shares-same)
 
 module _ (d : Net) (ok : Proper d) (c : ℕ) (l : c < d .constraints) (s : Sheet) (sound : Sound d c s) where
   -- "A sound sheet proves that no set holding c is denser than its claim."

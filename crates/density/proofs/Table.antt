@@ -81,7 +81,7 @@ below-gives (suc k) p t i l = go (ℕ-discrete i k) (below-gives k p (and-left (
     go (yes e) rest = subst (λ (j : ℕ). T (p j)) (sym e) (and-right (below k p) (p k) t)
     go (no n) rest = rest (omega arith)
 
-below-same : (k : ℕ) (p q : ℕ → Bool) → ((i : ℕ) → i < k → p i ≡ q i) → below k p ≡ below k q
+pub below-same : (k : ℕ) (p q : ℕ → Bool) → ((i : ℕ) → i < k → p i ≡ q i) → below k p ≡ below k q
 below-same zero p q h = refl
 below-same (suc k) p q h = ap₂ _&&_ (below-same k p q (λ i l. h i (omega arith))) (h k (omega arith))
 

@@ -1,5 +1,5 @@
--- Two listings of one drawing: "Renumbering, reordering, exchanging ends, or joining several constraints on a pair into one with the
--- summed weight changes nothing but the names." What is one drawing is said by pairs of objects; the four changes are in Change.
+-- Two listings of one drawing. Demand 3: renumbering, reordering, exchanging ends, or joining several constraints on a pair into one with
+-- the summed weight changes nothing but the names. What is one drawing is said by pairs of objects; the four changes are in Change.
 -- Assumes nothing.
 use mathlib.Core.Path.{_≡_}
 use mathlib.Core.Bool.{Bool, _&&_}

@@ -1,0 +1,16 @@
+pub mod Tests
+pub mod Passed
+pub mod Faults
+pub mod Heads
+pub mod Order
+pub mod Refusals
+pub mod Enough
+pub mod Held
+pub mod Listed
+pub mod Stores
+pub mod Weighing
+pub mod Turn
+pub mod Taken
+pub mod Accepted
+pub mod Ranges
+pub mod Callers

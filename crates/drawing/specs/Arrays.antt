@@ -1,0 +1,78 @@
+-- What the arrays of a drawing that was read hold. Assumes nothing.
+use mathlib.Core.Path.{_≡_}
+use mathlib.Core.List.{List, [], _∷_, _++_}
+use Prim.Native.Nat.{ℕ, zero, suc, _+_, _*_, _≤_, _<_}
+use lib.ListN.{length, getD}
+use Rattle.drawing.specs.declared.Object.{Object}
+use Rattle.drawing.specs.declared.Constraint.{Constraint}
+use Rattle.drawing.specs.declared.Entries.{Entries}
+use Rattle.drawing.specs.Entry.{Drawing}
+use Rattle.drawing.specs.Fault.{mostObjects, mostConstraints}
+use Rattle.drawing.specs.Read.{accepted, unless, read}
+
+pub record Arrays : Type 0 where
+  pub ends : List ℕ
+  pub objectKinds : List ℕ
+  pub objectStated : List ℕ
+  pub constraintKinds : List ℕ
+  pub constraintStated : List ℕ
+
+abbrev pub arraysOf : Entries → Arrays
+arraysOf r = record {
+  ends = r .ends;
+  objectKinds = r .«object_kinds»;
+  objectStated = r .«object_stated»;
+  constraintKinds = r .«constraint_kinds»;
+  constraintStated = r .«constraint_stated»;
+}
+
+-- f 0, f 1, .. f (k - 1)
+unfoldable pub listed : {A : Type 0} → ℕ → (ℕ → A) → List A
+listed zero f = []
+listed (suc k) f = listed k f ++ (f k ∷ [])
+
+-- object i and constraint e of the arrays: constraint e has its ends at 2e and 2e + 1
+abbrev pub objectIn : Arrays → ℕ → Object
+objectIn a i = record { kind = getD (a .objectKinds) i 0; stated = getD (a .objectStated) i 0 }
+
+abbrev pub constraintIn : Arrays → ℕ → Constraint
+constraintIn a e = record {
+  first = getD (a .ends) (2 * e) 0;
+  second = getD (a .ends) (2 * e + 1) 0;
+  kind = getD (a .constraintKinds) e 0;
+  stated = getD (a .constraintStated) e 0;
+}
+
+-- the drawing of n objects and m constraints in the arrays
+unfoldable pub drawingIn : Arrays → ℕ → ℕ → Drawing
+drawingIn a n m = record { objects = listed n (objectIn a); constraints = listed m (constraintIn a) }
+
+-- an array of a length that is zero from index k on
+pub record ZeroFrom (long k : ℕ) (l : List ℕ) : Type 0 where
+  pub size : length l ≡ long
+  pub zeros : (i : ℕ) → k ≤ i → getD l i 0 ≡ 0
+
+-- the counts are within the limits, and the arrays are zero past them
+pub record Tidy (n m : ℕ) (a : Arrays) : Type 0 where
+  pub few-objects : n ≤ mostObjects
+  pub few-constraints : m ≤ mostConstraints
+  pub ends-past : ZeroFrom (2 * mostConstraints) (2 * m) (a .ends)
+  pub object-kinds-past : ZeroFrom mostObjects n (a .objectKinds)
+  pub object-stated-past : ZeroFrom mostObjects n (a .objectStated)
+  pub constraint-kinds-past : ZeroFrom mostConstraints m (a .constraintKinds)
+  pub constraint-stated-past : ZeroFrom mostConstraints m (a .constraintStated)
+
+-- all zero
+abbrev pub Blank : Arrays → Type 0
+Blank a = Tidy 0 0 a
+
+-- the bytes read: refused with the code, or, at code 0, accepted with the drawing in the arrays
+pub record Held (s : List ℕ) (code n m : ℕ) (a : Arrays) : Type 0 where
+  pub reading : read s ≡ unless code (accepted (drawingIn a n m))
+  pub tidy : Tidy n m a
+
+-- what the ends of an accepted drawing are: each names an object, and the two of a constraint are different
+pub record ProperEnds (n m : ℕ) (ends : List ℕ) : Type 0 where
+  pub first-is : (e : ℕ) → e < m → getD ends (2 * e) 0 < n
+  pub second-is : (e : ℕ) → e < m → getD ends (2 * e + 1) 0 < n
+  pub apart : (e : ℕ) → e < m → getD ends (2 * e) 0 ≡ getD ends (2 * e + 1) 0 → ⊥

@@ -1,0 +1,12 @@
+pub mod Choice
+pub mod Table
+pub mod Entry
+pub mod Fault
+pub mod Format
+pub mod Found
+pub mod Read
+pub mod Weight
+pub mod Sound
+pub mod Arrays
+pub mod Weighed
+pub mod Samples

@@ -1,0 +1,28 @@
+// Arrays of zeros, in which a drawing is read and weighed.
+use crate::CONSTRAINTS;
+use crate::ENDS;
+use crate::OBJECTS;
+ghost use Prim.Native.Nat.{_*_};
+ghost use Rattle.drawing.specs.Fault.{mostObjects, mostConstraints};
+ghost use Rattle.drawing.specs.Arrays.{ZeroFrom};
+
+// The ends of no constraint.
+pub fn no_ends() -> [u16; ENDS]
+    ensures { λ r. ⌜ ZeroFrom (2 * mostConstraints) 0 r ⌝ }
+{
+    [0u16; ENDS]
+}
+
+// A byte for each object.
+pub fn no_objects() -> [u8; OBJECTS]
+    ensures { λ r. ⌜ ZeroFrom mostObjects 0 r ⌝ }
+{
+    [0u8; OBJECTS]
+}
+
+// A byte for each constraint.
+pub fn no_constraints() -> [u8; CONSTRAINTS]
+    ensures { λ r. ⌜ ZeroFrom mostConstraints 0 r ⌝ }
+{
+    [0u8; CONSTRAINTS]
+}

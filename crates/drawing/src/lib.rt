@@ -1,0 +1,126 @@
+// The bytes of a drawing: reading them into entries, turning faulty ones away, and the weights in force.
+pub mod blank;
+pub mod fault;
+pub mod format;
+pub mod reader;
+pub mod table;
+pub mod weight;
+
+use blank::no_constraints;
+use blank::no_ends;
+use blank::no_objects;
+use reader::fill;
+use weight::weigh_constraints;
+use weight::weigh_objects;
+ghost use Rattle.drawing.specs.Arrays.{Held, Tidy, arraysOf};
+ghost use Rattle.drawing.specs.Weighed.{Weighed};
+
+// The largest drawing: objects, constraints, and the two ends of each constraint.
+pub const OBJECTS: usize = 128;
+
+pub const CONSTRAINTS: usize = 512;
+
+pub const ENDS: usize = 2 * CONSTRAINTS;
+
+// An object as read.
+pub struct Object {
+    pub kind: u8,
+    pub stated: u8,
+}
+
+// A constraint as read. The two bytes stand first, so that `Found` holds every byte where an object has one.
+pub struct Constraint {
+    pub kind: u8,
+    pub stated: u8,
+    pub first: u16,
+    pub second: u16,
+}
+
+// What stands at a position of the bytes: a fault of the record's head or its cut body, or the record.
+pub enum Found {
+    Faulty(u32),
+    Object(Object),
+    Constraint(Constraint),
+    End,
+}
+
+// How reading ended: the number of the refusal, 0 if accepted, and the entries read so far.
+pub struct Counts {
+    pub code: u32,
+    pub objects: usize,
+    pub constraints: usize,
+}
+
+// A drawing that was read: the number of the refusal, 0 if accepted, and the entries. Constraint e has its ends at 2e and 2e + 1.
+pub struct Entries {
+    pub code: u32,
+    pub objects: usize,
+    pub constraints: usize,
+    pub ends: [u16; ENDS],
+    pub object_kinds: [u8; OBJECTS],
+    pub object_stated: [u8; OBJECTS],
+    pub constraint_kinds: [u8; CONSTRAINTS],
+    pub constraint_stated: [u8; CONSTRAINTS],
+}
+
+// Reads a drawing.
+pub fn read(bytes: &[u8]) -> Entries
+    ensures { λ r. ⌜ Held (now (bytes .entry)) (r .code) (r .objects) (r .constraints) (arraysOf r) ⌝ }
+{
+    let mut ends = no_ends();
+    let mut object_kinds = no_objects();
+    let mut object_stated = no_objects();
+    let mut constraint_kinds = no_constraints();
+    let mut constraint_stated = no_constraints();
+    let counts = fill(
+        bytes,
+        &mut ends,
+        &mut object_kinds,
+        &mut object_stated,
+        &mut constraint_kinds,
+        &mut constraint_stated,
+    );
+    Entries {
+        code: counts.code,
+        objects: counts.objects,
+        constraints: counts.constraints,
+        ends,
+        object_kinds,
+        object_stated,
+        constraint_kinds,
+        constraint_stated,
+    }
+}
+
+// The weights in force, zero past the counts.
+pub struct Weights {
+    pub objects: [u8; OBJECTS],
+    pub constraints: [u8; CONSTRAINTS],
+}
+
+// Weighs a drawing that was read.
+pub fn weigh(e: Entries) -> Weights
+    requires { ⌜ Tidy (e .objects) (e .constraints) (arraysOf e) ⌝ }
+    ensures { λ r. ⌜ Weighed (arraysOf e) (e .objects) (e .constraints) (r .objects) (r .constraints) ⌝ }
+{
+    let ends = e.ends;
+    let object_kinds = e.object_kinds;
+    let object_stated = e.object_stated;
+    let constraint_kinds = e.constraint_kinds;
+    let constraint_stated = e.constraint_stated;
+    let mut objects = no_objects();
+    let mut constraints = no_constraints();
+    weigh_objects(e.objects, &object_kinds, &object_stated, &mut objects);
+    weigh_constraints(
+        e.constraints,
+        &ends,
+        &object_kinds,
+        &constraint_kinds,
+        &constraint_stated,
+        &mut constraints,
+    );
+    Weights {
+        objects,
+        constraints,
+    }
+}

@@ -1,0 +1,117 @@
+// Reading a drawing, record by record.
+use crate::CONSTRAINTS;
+use crate::Counts;
+use crate::ENDS;
+use crate::Found;
+use crate::OBJECTS;
+use crate::fault::constraint_fault;
+use crate::fault::object_fault;
+use crate::format::CONSTRAINT_BODY;
+use crate::format::HEAD;
+use crate::format::OBJECT_BODY;
+use crate::format::record_at;
+ghost use mathlib.Core.Path.{_≡_};
+ghost use lib.ListN.{length, getD};
+ghost use Rattle.drawing.specs.Fault.{mostObjects};
+ghost use Rattle.drawing.specs.Arrays.{Blank, Held};
+ghost use Rattle.drawing.specs.Read.{behindFault};
+
+// The bytes of an object record, a constraint record and an end record.
+const OBJECT_RECORD: usize = HEAD + OBJECT_BODY;
+
+const CONSTRAINT_RECORD: usize = HEAD + CONSTRAINT_BODY;
+
+const END_RECORD: usize = HEAD;
+
+// The kind of the object that an end names, 0 where there is none.
+pub fn kind_of(kinds: &[u8; OBJECTS], end: u16) -> u8
+    requires { ⌜ length (now kinds) ≡ mostObjects ⌝ }
+    ensures { λ r. ⌜ r ≡ getD (now (kinds .entry)) end 0 ⌝ }
+{
+    if (end as usize) < OBJECTS {
+        kinds[end as usize]
+    } else {
+        0
+    }
+}
+
+// Reads the records one after the other into arrays that are zero at the start.
+pub fn fill(
+    s: &[u8],
+    ends: &mut [u16; ENDS],
+    object_kinds: &mut [u8; OBJECTS],
+    object_stated: &mut [u8; OBJECTS],
+    constraint_kinds: &mut [u8; CONSTRAINTS],
+    constraint_stated: &mut [u8; CONSTRAINTS],
+) -> Counts
+    requires { ⌜ Blank (record {
+      ends = now ends;
+      objectKinds = now «object_kinds»;
+      objectStated = now «object_stated»;
+      constraintKinds = now «constraint_kinds»;
+      constraintStated = now «constraint_stated»;
+    }) ⌝ }
+    ensures { λ r. ⌜ Held (now (s .entry)) (r .code) (r .objects) (r .constraints) (record {
+      ends = now (ends .exit);
+      objectKinds = now («object_kinds» .exit);
+      objectStated = now («object_stated» .exit);
+      constraintKinds = now («constraint_kinds» .exit);
+      constraintStated = now («constraint_stated» .exit);
+    }) ⌝ }
+{
+    let mut at: usize = 0;
+    let mut n: usize = 0;
+    let mut m: usize = 0;
+    loop {
+        match record_at(s, at) {
+            Found::Faulty(fault) => {
+                return ended(fault, n, m);
+            }
+            Found::Object(o) => {
+                let fault = object_fault(n, m, o);
+                if fault != 0 {
+                    return ended(fault, n, m);
+                }
+                object_kinds[n] = o.kind;
+                object_stated[n] = o.stated;
+                n += 1;
+                at += OBJECT_RECORD;
+            }
+            Found::Constraint(c) => {
+                let a = kind_of(object_kinds, c.first);
+                let b = kind_of(object_kinds, c.second);
+                let fault = constraint_fault(n, m, a, b, c);
+                if fault != 0 {
+                    return ended(fault, n, m);
+                }
+                ends[2 * m] = c.first;
+                ends[2 * m + 1] = c.second;
+                constraint_kinds[m] = c.kind;
+                constraint_stated[m] = c.stated;
+                m += 1;
+                at += CONSTRAINT_RECORD;
+            }
+            Found::End => {
+                return ended(behind(s, at + END_RECORD), n, m);
+            }
+        }
+    }
+}
+
+// The fault of bytes behind the end record, which stops at a position.
+fn behind(s: &[u8], at: usize) -> u32
+    ensures { λ r. ⌜ r ≡ behindFault (now (s .entry)) at ⌝ }
+{
+    if at < s.len() { 9 } else { 0 }
+}
+
+// How reading ended.
+fn ended(code: u32, objects: usize, constraints: usize) -> Counts
+    ensures { λ r. ⌜ r ≡ record { code = code; objects = objects; constraints = constraints } ⌝ }
+{
+    Counts {
+        code,
+        objects,
+        constraints,
+    }
+}
