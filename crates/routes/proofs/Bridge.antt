@@ -1,0 +1,247 @@
+-- From the arrays to the net: after both ends of c are released and all is settled, the marked objects are c's answer set.
+-- Assumes nothing.
+use mathlib.Core.Path.{_≡_, refl, sym, ap, subst, _∙_}
+use mathlib.Core.Logic.{_≢_, ⊎-elim}
+use mathlib.Core.List.{List}
+use Prim.Native.Nat.{ℕ, _+_, _*_, _/_, _<_, _≤_}
+use native.Mathlib.Omega.{arith}
+use lib.IntN.{ℤ, subℕ}
+use lib.Dec.{T, ltb, eqb, lt→ltb, ltb→lt}
+use Rattle.density.specs.Sum.{counted}
+use Rattle.density.specs.Net.{Net, Proper, Set, Side, first, second, holds, Inside}
+use Rattle.density.specs.Sheet as theory
+use Rattle.density.specs.Sheet.{Sound, claim}
+use Rattle.density.specs.Closed.{Closed, Full}
+use Rattle.density.specs.Top.{Answer}
+use Rattle.density.proofs.Tests.{and-left, and-right, and-both}
+use Rattle.density.proofs.Integers.{eq-of-cross}
+use Rattle.density.proofs.Shares.{claim-is, least-closed-answers}
+use Rattle.routes.specs.Limits.{at, Marked, objectLimit, weightLimit}
+use Rattle.routes.specs.State.{State, state, Holds, total, load}
+use Rattle.routes.specs.Kept.{Settling, Settled}
+use Rattle.routes.specs.Release.{Releasing, Released}
+use Rattle.routes.specs.Arrays.{place, net, sheet, members, Fair}
+use Rattle.routes.specs.Answered.{AskedFor, Answered, Summing, Remains}
+use Rattle.routes.proofs.Small.{same-or-not, zero-or-some}
+use Rattle.routes.proofs.Sums.{sum-pairs}
+use Rattle.routes.proofs.Places.{share-le-load}
+use Rattle.routes.proofs.Releasing.{load-gone, load-stays, kept-released}
+
+-- ---- places and sides
+
+place-below : (m : ℕ) (i : Side) (e : ℕ) → e < m → place i e < 2 * m
+place-below m first e b = omega arith
+place-below m second e b = omega arith
+
+place-half : (i : Side) (e : ℕ) → place i e / 2 ≡ e
+place-half first e = omega arith
+place-half second e = omega arith
+
+-- each place of e is one of its two
+by-side : (P : ℕ → Type 0) (k : ℕ) → ((i : Side) → k ≡ place i (k / 2) → P k) → P k
+by-side P k h = ⊎-elim (λ e. h first e) (λ n. h second (omega arith)) (same-or-not k (2 * (k / 2)))
+
+-- a set that holds e has both its ends, and a set that has both holds it
+holds-both : (n m : ℕ) (ends weights takes : List ℕ) (S : Set) (e : ℕ) → T (holds (net n m ends weights takes) S e) → Holds ends S e
+holds-both n m ends weights takes S e h i q =
+    ⊎-elim
+    (λ y. subst (λ (x : ℕ). T (S (at ends x))) (sym y) (and-left (S (at ends (2 * e))) (S (at ends (2 * e + 1))) h))
+    (λ d. let y : 2 * e + 1 ≡ i = omega arith in subst (λ (x : ℕ). T (S (at ends x))) y (and-right (S (at ends (2 * e))) (S (at ends (2 * e + 1))) h))
+    (same-or-not i (2 * e))
+
+both-holds : (n m : ℕ) (ends weights takes : List ℕ) (S : Set) (e : ℕ) → Holds ends S e → T (holds (net n m ends weights takes) S e)
+both-holds n m ends weights takes S e h = and-both (S (at ends (2 * e))) (S (at ends (2 * e + 1))) (h (2 * e) (omega arith)) (h (2 * e + 1) (omega arith))
+
+member : (objects : List ℕ) (v : ℕ) → Marked objects v → T (members objects v)
+member objects v h = lt→ltb 0 (at objects v) h
+
+member-marked : (objects : List ℕ) (v : ℕ) → T (members objects v) → Marked objects v
+member-marked objects v h = ltb→lt 0 (at objects v) h
+
+-- what the theory says an object receives is its load
+received-is : (n m : ℕ) (ends weights takes shares : List ℕ) (v : ℕ) → theory.received (net n m ends weights takes) (sheet shares) v ≡ load m ends shares v
+unfolding theory.received load
+received-is n m ends weights takes shares v = sym (sum-pairs m (λ i. counted (eqb (at ends i) v) (at shares i)))
+
+proper : (n m : ℕ) (ends weights takes : List ℕ) → Fair n m ends weights takes → Proper (net n m ends weights takes)
+proper n m ends weights takes fair = record {
+  named = λ i e b. fair .named (place i e) (place-below m i e b);
+  apart = fair .apart;
+}
+
+-- ---- the answer
+
+-- one and two are the ends of c
+module _ {n m c : ℕ} {ends weights takes head next : List ℕ} {s : State} (ask : AskedFor n m c ends weights takes head next s)
+    {one two : ℕ} (one-is : one ≡ at ends (2 * c)) (two-is : two ≡ at ends (2 * c + 1)) where
+  abbrev d : Net
+  d = net n m ends weights takes
+
+  one-object : one < n
+  one-object = omega (arith, one-is, ask .fair .named (2 * c) (omega (arith, ask .is)))
+
+  two-object : two < n
+  two-object = omega (arith, two-is, ask .fair .named (2 * c + 1) (omega (arith, ask .is)))
+
+  pub one-small : one < objectLimit
+  one-small = omega (arith, one-object, ask .fair .few-objects)
+
+  pub two-small : two < objectLimit
+  two-small = omega (arith, two-object, ask .fair .few-objects)
+
+  pub ends-light : at weights one + at weights two ≤ weightLimit + weightLimit
+  ends-light = omega (arith, ask .fair .light-objects one one-object, ask .fair .light-objects two two-object)
+
+  apart : one ≢ two
+  apart e = ask .fair .apart c (ask .is) (sym one-is ∙ e ∙ two-is)
+
+  pub first-release : Releasing m one ends head next (s .shares) (s .room)
+  first-release = record { wired = ask .spread .wired; object = one-small; shares-long = ask .spread .kept .sized .shares; room-long = ask .spread .kept .sized .room }
+
+  module _ {shares₁ room₁ : List ℕ} (released₁ : Released m one ends (s .shares) (s .room) shares₁ room₁) where
+    pub second-release : Releasing m two ends head next shares₁ room₁
+    second-release = record { wired = ask .spread .wired; object = two-small; shares-long = released₁ .shares-long; room-long = released₁ .room-long }
+
+    module _ {shares₂ room₂ : List ℕ} (released₂ : Released m two ends shares₁ room₁ shares₂ room₂) where
+      abbrev bare : State
+      bare = state (s .objects) (s .constraints) shares₂ room₂
+
+      pub answer-settling : Settling m ends head next takes bare
+      answer-settling = record {
+        wired = ask .spread .wired;
+        kept = kept-released released₂ (s .objects) (s .constraints) takes
+            (kept-released released₁ (s .objects) (s .constraints) takes (ask .spread .kept));
+      }
+
+      bare-two : load m ends shares₂ two + at room₂ two ≡ 0
+      bare-two = omega (arith, load-gone released₂, released₂ .no-room)
+
+      bare-one : load m ends shares₂ one + at room₂ one ≡ 0
+      bare-one = omega (arith, load-stays released₂ one apart, released₂ .rooms one apart, load-gone released₁, released₁ .no-room)
+
+      bare-other : (v : ℕ) → v ≢ one → v ≢ two → load m ends shares₂ v + at room₂ v ≡ at weights v
+      bare-other v p q = omega (
+        arith,
+        load-stays released₂ v q,
+        released₂ .rooms v q,
+        load-stays released₁ v p,
+        released₁ .rooms v p,
+        ask .spread .open-rooms v,
+      )
+
+      module _ {t : State} (settled : Settled m ends takes bare t) where
+        abbrev M : Set
+        M = members (t .objects)
+
+        pub answer-summing : Summing m takes (t .shares)
+        answer-summing = record { few = ask .fair .few-constraints; light = ask .fair .light-constraints; fits = settled .kept .fits }
+
+        load-one : load m ends (t .shares) one ≡ 0
+        load-one = omega (arith, settled .onward .loads one, bare-one)
+
+        load-two : load m ends (t .shares) two ≡ 0
+        load-two = omega (arith, settled .onward .loads two, bare-two)
+
+        load-other : (v : ℕ) → v ≢ one → v ≢ two → load m ends (t .shares) v + at (t .room) v ≡ at weights v
+        load-other v p q = settled .onward .loads v ∙ bare-other v p q
+
+        load-le : (v : ℕ) → load m ends (t .shares) v ≤ at weights v
+        load-le v = ⊎-elim
+            (λ e. subst (λ (x : ℕ). load m ends (t .shares) x ≤ at weights x) (sym e) (omega (arith, load-one)))
+            (λ p. ⊎-elim
+            (λ e. subst (λ (x : ℕ). load m ends (t .shares) x ≤ at weights x) (sym e) (omega (arith, load-two)))
+            (λ q. omega (arith, load-other v p q))
+            (same-or-not v two))
+            (same-or-not v one)
+
+        load-ends : (i : Side) → load m ends (t .shares) (at ends (place i c)) ≡ 0
+        load-ends first = subst (λ (x : ℕ). load m ends (t .shares) x ≡ 0) one-is load-one
+        load-ends second = subst (λ (x : ℕ). load m ends (t .shares) x ≡ 0) two-is load-two
+
+        received-of : (v : ℕ) → theory.received d (sheet (t .shares)) v ≡ load m ends (t .shares) v
+        received-of v = received-is n m ends weights takes (t .shares) v
+
+        sound : Sound d c (sheet (t .shares))
+        sound = record {
+          fits = settled .kept .fits;
+          room = λ v b. omega (arith, received-of v, load-le v);
+          bare = λ i. received-of (at ends (place i c)) ∙ load-ends i;
+        }
+
+        -- c gives nothing, so it has weight left and is marked
+        c-marked : Marked (t .constraints) c
+        c-marked = settled .all c (ask .is)
+            (omega (
+              arith,
+              ask .some,
+              share-le-load m ends (t .shares) (2 * c) (omega (arith, ask .is)),
+              load-ends first,
+              share-le-load m ends (t .shares) (2 * c + 1) (omega (arith, ask .is)),
+              load-ends second,
+            ))
+
+        held-marked : (e : ℕ) → e < m → Marked (t .constraints) e → T (holds d M e)
+        held-marked e b h = both-holds n m ends weights takes M e (λ i q. member (t .objects) (at ends i) (settled .kept .closed e b h i q))
+
+        closed : Closed d (sheet (t .shares)) M
+        closed = record {
+          starts = λ e b l. held-marked e b (settled .all e b l);
+          goes-on = λ i e b inside p. held-marked e b
+              (subst (λ (x : ℕ). Marked (t .constraints) x) (place-half i e)
+              (settled .kept .goes-on (place i e) (place-below m i e b) (member-marked (t .objects) (at ends (place i e)) inside) p));
+        }
+
+        full : Full d c (sheet (t .shares)) M
+        full v b inside p q = omega (
+          arith,
+          received-of v,
+          load-other v (λ e. p (e ∙ one-is)) (λ e. q (e ∙ two-is)),
+          settled .kept .full v (member-marked (t .objects) v inside),
+        )
+
+        least : (S : Set) → T (holds d S c) → Closed d (sheet (t .shares)) S → Inside d M S
+        least S h closed-S v b inside = settled .kept .least S
+            (λ e l y left. holds-both n m ends weights takes S e (closed-S .starts e l left))
+            (λ k l y in-S p. by-side (λ x. x ≡ k → Holds ends S (k / 2)) k
+            (λ i e _. holds-both n m ends weights takes S (k / 2)
+            (closed-S .goes-on i (k / 2) (omega arith)
+            (subst (λ (x : ℕ). T (S (at ends x))) e in-S)
+            (subst (λ (x : ℕ). 0 < at (t .shares) x) e p))) refl)
+            v (member-marked (t .objects) v inside)
+
+        -- every marked object is one of the net's
+        inside-n : (v : ℕ) → Marked (t .objects) v → v < n
+        inside-n v h = ltb→lt v n (settled .kept .least (λ x. ltb x n)
+            (λ e b y l i q. lt→ltb (at ends i) n (ask .fair .named i (omega arith)))
+            (λ k b y x p i q. lt→ltb (at ends i) n (ask .fair .named i (omega arith))) v h)
+
+        outside-clear : (v : ℕ) → n ≤ v → at (t .objects) v ≡ 0
+        outside-clear v b = ⊎-elim (λ z. z) (λ h. absurd (omega (arith, inside-n v h))) (zero-or-some (at (t .objects) v))
+
+        side-light : (i : Side) (e : ℕ) → e < m → at (t .shares) (place i e) ≤ weightLimit
+        side-light first e b = omega (arith, settled .kept .fits e b, ask .fair .light-constraints e b)
+        side-light second e b = omega (arith, settled .kept .fits e b, ask .fair .light-constraints e b)
+
+        share-light : (k : ℕ) → k < 2 * m → at (t .shares) k ≤ weightLimit
+        share-light k b = by-side (λ x. at (t .shares) x ≤ weightLimit) k
+            (λ i e. subst (λ (x : ℕ). at (t .shares) x ≤ weightLimit) (sym e) (side-light i (k / 2) (omega arith)))
+
+        module _ {above below : ℕ} (remains : Remains m takes (t .shares) above) (weigh : below ≡ at weights one + at weights two) where
+          claim-above : claim d c (sheet (t .shares)) ≡ subℕ above below
+          unfolding theory.total theory.given
+          claim-above = claim-is d c (sheet (t .shares))
+              ∙ eq-of-cross (theory.total d) (theory.given d (sheet (t .shares)) + theory.ends-weigh d c) above below
+              (omega (arith, remains .is, weigh, ap (λ (x : ℕ). at weights x) one-is, ap (λ (x : ℕ). at weights x) two-is))
+
+          pub answered : Answered n m c ends weights takes (t .objects) (t .shares) above below
+          answered = record {
+            answer = subst (λ (z : ℤ). Answer d c z M) claim-above
+                (least-closed-answers d (proper n m ends weights takes (ask .fair)) c (ask .is) (sheet (t .shares)) sound M
+                (held-marked c (ask .is) c-marked) closed full least);
+            sound = sound;
+            claims = claim-above;
+            outside = outside-clear;
+            above-small = omega (arith, remains .small, ask .fair .few-constraints);
+            below-small = omega (arith, weigh, ends-light);
+            shares-small = share-light;
+          }

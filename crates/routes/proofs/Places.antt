@@ -1,0 +1,91 @@
+-- Loads and totals under a store at one place. Assumes nothing.
+use mathlib.Core.Path.{_≡_, refl, sym, ap, subst, _∙_}
+use mathlib.Core.Logic.{_≢_, ⊎-elim}
+use mathlib.Core.List.{List}
+use Prim.Native.Nat.{ℕ, _+_, _-_, _*_, _/_, _<_, _≤_}
+use native.Mathlib.Omega.{arith}
+use lib.ListN.{length, set}
+use lib.Seq.{getD-set-same, getD-set-other}
+use lib.Dec.{eqb}
+use Rattle.density.specs.Sum.{sum, counted}
+use Rattle.density.proofs.Sums.{counted-add, term-le}
+use Rattle.routes.specs.Limits.{at}
+use Rattle.routes.specs.State.{total, load}
+use Rattle.routes.specs.Search.{lowered, raised}
+use Rattle.routes.proofs.Small.{same-or-not}
+use Rattle.routes.proofs.Sums.{counted-here, counted-off, sum-at}
+
+pub at-set-here : (l : List ℕ) (i y q : ℕ) → i < length l → q ≡ i → at (set l i y) q ≡ y
+at-set-here l i y q b e = subst (λ (j : ℕ). at (set l i y) j ≡ y) (sym e) (getD-set-same l i y 0 b)
+
+pub at-set-off : (l : List ℕ) (i y q : ℕ) → q ≢ i → at (set l i y) q ≡ at l q
+at-set-off l i y q n = getD-set-other l i q y 0 n
+
+-- ---- what an object receives
+
+pub load-set : (m : ℕ) (ends shares : List ℕ) (i y v : ℕ) → i < 2 * m → i < length shares
+    → load m ends (set shares i y) v + counted (eqb (at ends i) v) (at shares i) ≡ load m ends shares v + counted (eqb (at ends i) v) y
+unfolding load
+load-set m ends shares i y v l b =
+    sum-at (2 * m) (λ x. counted (eqb (at ends x) v) (at (set shares i y) x)) (λ x. counted (eqb (at ends x) v) (at shares x)) i l
+    (λ x n. ap (λ (z : ℕ). counted (eqb (at ends x) v) z) (at-set-off shares i y x n))
+    ∙ ap (λ (z : ℕ). sum (2 * m) (λ x. counted (eqb (at ends x) v) (at shares x)) + counted (eqb (at ends i) v) z) (getD-set-same shares i y 0 b)
+
+pub load-raised : (m : ℕ) (ends shares : List ℕ) (i v : ℕ) → i < 2 * m → i < length shares
+    → load m ends (raised i shares) v ≡ load m ends shares v + counted (eqb (at ends i) v) 1
+load-raised m ends shares i v l b =
+    omega (arith, load-set m ends shares i (at shares i + 1) v l b, counted-add (eqb (at ends i) v) (at shares i) 1)
+
+pub load-lowered : (m : ℕ) (ends shares : List ℕ) (k v : ℕ) → k < 2 * m → k < length shares → 0 < at shares k
+    → load m ends (lowered k shares) v + counted (eqb (at ends k) v) 1 ≡ load m ends shares v
+load-lowered m ends shares k v l b p =
+    let whole : at shares k - 1 + 1 ≡ at shares k = omega arith in
+    omega (arith, load-set m ends shares k (at shares k - 1) v l b, counted-add (eqb (at ends k) v) (at shares k - 1) 1, ap (λ (z : ℕ). counted (eqb (at ends k) v) z) whole)
+
+pub share-le-load : (m : ℕ) (ends shares : List ℕ) (i : ℕ) → i < 2 * m → at shares i ≤ load m ends shares (at ends i)
+unfolding load
+share-le-load m ends shares i l =
+    omega (arith, term-le (2 * m) (λ x. counted (eqb (at ends x) (at ends i)) (at shares x)) i l, counted-here (at ends i) (at ends i) (at shares i) refl)
+
+-- ---- what a constraint gives
+
+pub total-set : (shares : List ℕ) (i y x : ℕ) → i < length shares
+    → total (set shares i y) x + counted (eqb (i / 2) x) (at shares i) ≡ total shares x + counted (eqb (i / 2) x) y
+total-set shares i y x b =
+    ⊎-elim
+    (λ e. ⊎-elim
+    (λ f. omega (
+      arith,
+      at-set-here shares i y (2 * x) b f,
+      at-set-off shares i y (2 * x + 1) (λ q. absurd (omega arith)),
+      ap (λ (z : ℕ). at shares z) f,
+      counted-here (i / 2) x (at shares i) e,
+      counted-here (i / 2) x y e,
+    ))
+    (λ f. let g : 2 * x + 1 ≡ i = omega arith in
+    omega (
+      arith,
+      at-set-off shares i y (2 * x) f,
+      at-set-here shares i y (2 * x + 1) b g,
+      ap (λ (z : ℕ). at shares z) g,
+      counted-here (i / 2) x (at shares i) e,
+      counted-here (i / 2) x y e,
+    ))
+    (same-or-not (2 * x) i))
+    (λ n. omega (
+      arith,
+      at-set-off shares i y (2 * x) (λ q. n (omega arith)),
+      at-set-off shares i y (2 * x + 1) (λ q. n (omega arith)),
+      counted-off (i / 2) x (at shares i) n,
+      counted-off (i / 2) x y n,
+    ))
+    (same-or-not (i / 2) x)
+
+pub total-raised : (shares : List ℕ) (i x : ℕ) → i < length shares → total (raised i shares) x ≡ total shares x + counted (eqb (i / 2) x) 1
+total-raised shares i x b =
+    omega (arith, total-set shares i (at shares i + 1) x b, counted-add (eqb (i / 2) x) (at shares i) 1)
+
+pub total-lowered : (shares : List ℕ) (k x : ℕ) → k < length shares → 0 < at shares k → total (lowered k shares) x + counted (eqb (k / 2) x) 1 ≡ total shares x
+total-lowered shares k x b p =
+    let whole : at shares k - 1 + 1 ≡ at shares k = omega arith in
+    omega (arith, total-set shares k (at shares k - 1) x b, counted-add (eqb (k / 2) x) (at shares k - 1) 1, ap (λ (z : ℕ). counted (eqb (k / 2) x) z) whole)

@@ -1,0 +1,46 @@
+-- Laws of finite sums. Assumes nothing.
+use mathlib.Core.Path.{_≡_, refl, sym, ap, subst}
+use mathlib.Core.Logic.{_≢_, ⊎-elim}
+use mathlib.Core.Bool.{Bool}
+use Prim.Native.Nat.{ℕ, zero, suc, _+_, _*_, _<_, _≤_, zero-le}
+use native.Mathlib.Nat.{not-suc-le-zero}
+use native.Mathlib.Omega.{arith}
+use lib.Dec.{eqb}
+use borrow.Author.Tests.{eq-eqb, ne-eqb}
+use Rattle.density.specs.Sum.{sum, counted}
+use Rattle.density.proofs.Sums.{sum-same}
+use Rattle.routes.proofs.Small.{same-or-not}
+
+pub counted-here : (i v y : ℕ) → i ≡ v → counted (eqb i v) y ≡ y
+counted-here i v y e = ap (λ (b : Bool). counted b y) (eq-eqb i v e)
+
+pub counted-off : (i v y : ℕ) → i ≢ v → counted (eqb i v) y ≡ 0
+counted-off i v y n = ap (λ (b : Bool). counted b y) (ne-eqb i v n)
+
+-- two sums whose terms differ at i alone
+pub sum-at : (k : ℕ) (f g : ℕ → ℕ) (i : ℕ) → i < k → ((x : ℕ) → x ≢ i → f x ≡ g x) → sum k f + g i ≡ sum k g + f i
+unfolding sum
+sum-at zero f g i l h = absurd (not-suc-le-zero l)
+sum-at (suc k) f g i l h =
+    ⊎-elim
+    (λ e. subst (λ (j : ℕ). sum k f + f k + g j ≡ sum k g + g k + f j) (sym e)
+    (omega (arith, sum-same k f g (λ x b. h x (λ q. absurd (omega arith))))))
+    (λ n. omega (arith, sum-at k f g i (omega arith) h, h k (λ q. n (sym q))))
+    (same-or-not i k)
+
+-- k terms of at most 1
+pub sum-le-count : (k : ℕ) (f : ℕ → ℕ) → ((x : ℕ) → x < k → f x ≤ 1) → sum k f ≤ k
+unfolding sum
+sum-le-count zero f h = zero-le
+sum-le-count (suc k) f h = omega (arith, sum-le-count k f (λ x l. h x (omega arith)), h k (omega arith))
+
+-- the sum over the places is the sum over the constraints of both places
+pub sum-pairs : (m : ℕ) (f : ℕ → ℕ) → sum (2 * m) f ≡ sum m (λ e. f (2 * e) + f (2 * e + 1))
+unfolding sum
+sum-pairs zero f = refl
+sum-pairs (suc m) f =
+    let twice : 2 * suc m ≡ suc (suc (2 * m)) = omega arith in
+    let next : suc (2 * m) ≡ 2 * m + 1 = omega arith in
+    subst (λ (k : ℕ). sum k f ≡ sum m (λ e. f (2 * e) + f (2 * e + 1)) + (f (2 * m) + f (2 * m + 1))) (sym twice)
+    (subst (λ (j : ℕ). sum (2 * m) f + f (2 * m) + f (suc (2 * m)) ≡ sum m (λ e. f (2 * e) + f (2 * e + 1)) + (f (2 * m) + f j)) next
+    (omega (arith, sum-pairs m f)))

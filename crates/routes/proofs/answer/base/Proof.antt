@@ -1,0 +1,18 @@
+-- `routes::answer::base` meets its contract. Assumes nothing.
+use Rattle.routes.proofs.Opening.{spread-settling, spread-settled}
+use Rattle.routes.proofs.answer.base.Statement.{statement}
+use Rattle.routes.proofs.answer.base.Tie as tie
+
+nothing-requires : tie.Need-nothing-requires
+nothing-requires c κs = c .pre
+
+settle-requires : tie.Need-settle-requires
+settle-requires c κs =
+    spread-settling (c .before .before .before .before .before .before .before .before .before .before .before .nothing .ensures)
+
+returns : tie.Need-returns
+returns c =
+    spread-settled (c .before .before .before .before .before .before .before .before .before .before .before .before .nothing .ensures) (c .settle .ensures)
+
+pub base-spec : {M : Type 1} → statement M
+base-spec = tie.close (tie.spec nothing-requires settle-requires returns)

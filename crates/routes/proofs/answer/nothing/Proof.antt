@@ -1,0 +1,18 @@
+-- `routes::answer::nothing` meets its contract. Assumes nothing.
+use borrow.Author.Needs.{needs}
+use Rattle.routes.proofs.Opening.{fair-named, opened}
+use Rattle.routes.proofs.answer.nothing.Statement.{statement}
+use Rattle.routes.proofs.answer.nothing.Tie as tie
+
+chain-requires : tie.Need-chain-requires
+chain-requires c κs = fair-named (c .pre)
+
+rooms-requires : tie.Need-rooms-requires
+rooms-requires c κs = search needs
+
+returns : tie.Need-returns
+returns c =
+    opened (c .before .before .before .before .before .pre) (c .before .before .before .before .chain .ensures) (c .rooms .ensures .0) (c .rooms .ensures .1)
+
+pub nothing-spec : {M : Type 1} → statement M
+nothing-spec = tie.close (tie.spec chain-requires rooms-requires returns)

@@ -1,0 +1,9 @@
+pub mod Limits
+pub mod Wires
+pub mod State
+pub mod Route
+pub mod Search
+pub mod Kept
+pub mod Release
+pub mod Arrays
+pub mod Answered

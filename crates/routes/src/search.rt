@@ -1,0 +1,157 @@
+// The route search: from a constraint to its objects, and from a full object to the constraints with a share there.
+use crate::CONSTRAINTS;
+use crate::OBJECTS;
+use crate::PLACES;
+ghost use mathlib.Core.Path.{_≡_};
+ghost use Prim.Native.Nat.{_<_};
+ghost use Rattle.routes.specs.Limits.{at, objectLimit, placeLimit};
+ghost use Rattle.routes.specs.State.{state};
+ghost use Rattle.routes.specs.Route.{routeOf};
+ghost use Rattle.routes.specs.Search.{ReadyConstraint, ReadyObject, FromConstraint, FromObject, Waiting, Giving, Given, Shifting, shifted};
+
+// The set of marked objects: a mark for each object, 0 for none.
+pub struct Marks {
+    pub objects: [u8; OBJECTS],
+}
+
+// What a search answers: whether a route was found, how many objects and constraints it marked, and the marked objects.
+pub struct Route {
+    pub found: bool,
+    pub count: usize,
+    pub marks: Marks,
+}
+
+impl Route {
+    fn new(found: bool, count: usize, marks: Marks) -> Self
+        ensures { λ r. ⌜ r ≡ routeOf found count marks ⌝ }
+    {
+        Route {
+            found,
+            count,
+            marks,
+        }
+    }
+}
+
+// What stands at a place: of ends an object, of next one more than a place.
+pub fn place_at(i: usize, list: &[u16; PLACES]) -> usize
+    requires { ⌜ i < placeLimit ⌝ }
+    ensures { λ r. ⌜ r ≡ at (now (list .entry)) i ⌝ }
+{
+    wide(list[i])
+}
+
+// One more than the last place of an object.
+pub fn head_of(v: usize, head: &[u16; OBJECTS]) -> usize
+    requires { ⌜ v < objectLimit ⌝ }
+    ensures { λ r. ⌜ r ≡ at (now (head .entry)) v ⌝ }
+{
+    wide(head[v])
+}
+
+// A share, an object or a place as a number to count with.
+pub fn wide(x: u16) -> usize
+    ensures { λ r. ⌜ r ≡ x ⌝ }
+{
+    x as usize
+}
+
+// Whether the constraint at place k has a share there and is not marked.
+fn waiting(k: usize, stuck: &[u8; CONSTRAINTS], shares: &[u16; PLACES]) -> bool
+    requires { ⌜ k < placeLimit ⌝ }
+    ensures { λ r. ⌜ Waiting k (now (stuck .entry)) (now (shares .entry)) r ⌝ }
+{
+    if shares[k] == 0 {
+        return false;
+    }
+    stuck[k / 2] == 0
+}
+
+// The object v, which has room, receives one share more at place i.
+fn give(i: usize, v: usize, shares: &mut [u16; PLACES], room: &mut [u8; OBJECTS])
+    requires { ⌜ Giving i v (now shares) (now room) ⌝ }
+    ensures { λ _. ⌜ Given i v (now (shares .entry)) (now (room .entry)) (now (shares .exit)) (now (room .exit)) ⌝ }
+{
+    shares[i] += 1;
+    room[v] -= 1;
+}
+
+// A share goes from place k to place i.
+fn shift(k: usize, i: usize, shares: &mut [u16; PLACES])
+    requires { ⌜ Shifting k i (now shares) ⌝ }
+    ensures { λ _. ⌜ now (shares .exit) ≡ shifted k i (now (shares .entry)) ⌝ }
+{
+    shares[k] -= 1;
+    shares[i] += 1;
+}
+
+// From constraint e: mark it, and go to its first end; where that finds no route, to its second.
+pub fn from_constraint(
+    m: usize,
+    e: usize,
+    marks: Marks,
+    stuck: &mut [u8; CONSTRAINTS],
+    shares: &mut [u16; PLACES],
+    room: &mut [u8; OBJECTS],
+    ends: &[u16; PLACES],
+    head: &[u16; OBJECTS],
+    next: &[u16; PLACES],
+) -> Route
+    requires { ⌜ ReadyConstraint m e (now ends) (now head) (now next) (state (marks .objects) (now stuck) (now shares) (now room)) ⌝ }
+    ensures { λ r. ⌜ FromConstraint m e (now (ends .entry)) (state (marks .objects) (now (stuck .entry)) (now (shares .entry)) (now (room .entry))) (state (r .marks .objects) (now (stuck .exit)) (now (shares .exit)) (now (room .exit))) (r .found) (r .count) ⌝ }
+{
+    stuck[e] = 1;
+    let mut one = from_object(m, 2 * e, marks, stuck, shares, room, ends, head, next);
+    one.count += 1;
+    if one.found {
+        return one;
+    }
+    let between = one.marks;
+    let mut two = from_object(m, 2 * e + 1, between, stuck, shares, room, ends, head, next);
+    two.count += one.count;
+    two
+}
+
+// To the object at place i. Marked: no route. With room: the share at i rises. Full: mark it, and go on to each unmarked
+// constraint with a share there, the last place first; where one finds a route, its share here goes to i.
+fn from_object(
+    m: usize,
+    i: usize,
+    mut marks: Marks,
+    stuck: &mut [u8; CONSTRAINTS],
+    shares: &mut [u16; PLACES],
+    room: &mut [u8; OBJECTS],
+    ends: &[u16; PLACES],
+    head: &[u16; OBJECTS],
+    next: &[u16; PLACES],
+) -> Route
+    requires { ⌜ ReadyObject m i (now ends) (now head) (now next) (state (marks .objects) (now stuck) (now shares) (now room)) ⌝ }
+    ensures { λ r. ⌜ FromObject m i (now (ends .entry)) (state (marks .objects) (now (stuck .entry)) (now (shares .entry)) (now (room .entry))) (state (r .marks .objects) (now (stuck .exit)) (now (shares .exit)) (now (room .exit))) (r .found) (r .count) ⌝ }
+{
+    let v = place_at(i, ends);
+    if marks.objects[v] != 0 {
+        return Route::new(false, 0, marks);
+    }
+    if room[v] != 0 {
+        give(i, v, shares, room);
+        return Route::new(true, 0, marks);
+    }
+    marks.objects[v] = 1;
+    let mut count: usize = 1;
+    let mut left = head_of(v, head);
+    while left != 0 {
+        let k = left - 1;
+        left = place_at(k, next);
+        if waiting(k, stuck, shares) {
+            let mut r = from_constraint(m, k / 2, marks, stuck, shares, room, ends, head, next);
+            r.count += count;
+            if r.found {
+                shift(k, i, shares);
+                return r;
+            }
+            marks = r.marks;
+            count = r.count;
+        }
+    }
+    Route::new(false, count, marks)
+}

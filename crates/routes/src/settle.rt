@@ -1,0 +1,99 @@
+// Settling: each constraint gives what weight it has left along routes, or is stuck.
+use crate::CONSTRAINTS;
+use crate::OBJECTS;
+use crate::PLACES;
+use crate::search::Marks;
+use crate::search::from_constraint;
+use crate::search::wide;
+ghost use mathlib.Core.Path.{_≡_};
+ghost use Prim.Native.Nat.{_+_};
+ghost use Rattle.routes.specs.Limits.{at};
+ghost use Rattle.routes.specs.State.{state, total};
+ghost use Rattle.routes.specs.Kept.{Settling, Settled, Placing, Placed, Asking, Waits};
+
+// A weight as a number to count with.
+pub fn number(x: u8) -> usize
+    ensures { λ r. ⌜ r ≡ x ⌝ }
+{
+    x as usize
+}
+
+// What weight constraint e has left.
+pub fn left(e: usize, shares: &[u16; PLACES], takes: &[u8; CONSTRAINTS]) -> usize
+    requires { ⌜ Asking e (now takes) (now shares) ⌝ }
+    ensures { λ r. ⌜ r + total (now (shares .entry)) e ≡ at (now (takes .entry)) e ⌝ }
+{
+    number(takes[e]) - wide(shares[2 * e]) - wide(shares[2 * e + 1])
+}
+
+// Whether constraint e has weight left and is not marked.
+fn waits(
+    e: usize,
+    stuck: &[u8; CONSTRAINTS],
+    shares: &[u16; PLACES],
+    takes: &[u8; CONSTRAINTS],
+) -> bool
+    requires { ⌜ Asking e (now takes) (now shares) ⌝ }
+    ensures { λ r. ⌜ Waits e (now (takes .entry)) (now (stuck .entry)) (now (shares .entry)) r ⌝ }
+{
+    if left(e, shares, takes) != 0 {
+        return stuck[e] == 0;
+    }
+    false
+}
+
+// Constraint e gives what weight it has left. The marks of a search that found a route are dropped; those of one that
+// found none are kept for good.
+fn place(
+    m: usize,
+    e: usize,
+    marks: Marks,
+    stuck: &mut [u8; CONSTRAINTS],
+    shares: &mut [u16; PLACES],
+    room: &mut [u8; OBJECTS],
+    takes: &[u8; CONSTRAINTS],
+    ends: &[u16; PLACES],
+    head: &[u16; OBJECTS],
+    next: &[u16; PLACES],
+) -> Marks
+    requires { ⌜ Placing m e (now ends) (now head) (now next) (now takes) (state (marks .objects) (now stuck) (now shares) (now room)) ⌝ }
+    ensures { λ r. ⌜ Placed m e (now (ends .entry)) (now (takes .entry)) (state (marks .objects) (now (stuck .entry)) (now (shares .entry)) (now (room .entry))) (state (r .objects) (now (stuck .exit)) (now (shares .exit)) (now (room .exit))) ⌝ }
+{
+    while left(e, shares, takes) != 0 {
+        let mut trial = *stuck;
+        let route = from_constraint(m, e, marks, &mut trial, shares, room, ends, head, next);
+        if !route.found {
+            *stuck = trial;
+            let reached = route.marks;
+            return reached;
+        }
+    }
+    marks
+}
+
+// Every constraint gives what weight it has left, or is stuck, and then its marks are there.
+pub fn settle(
+    m: usize,
+    marks: Marks,
+    stuck: &mut [u8; CONSTRAINTS],
+    shares: &mut [u16; PLACES],
+    room: &mut [u8; OBJECTS],
+    takes: &[u8; CONSTRAINTS],
+    ends: &[u16; PLACES],
+    head: &[u16; OBJECTS],
+    next: &[u16; PLACES],
+) -> Marks
+    requires { ⌜ Settling m (now ends) (now head) (now next) (now takes) (state (marks .objects) (now stuck) (now shares) (now room)) ⌝ }
+    ensures { λ r. ⌜ Settled m (now (ends .entry)) (now (takes .entry)) (state (marks .objects) (now (stuck .entry)) (now (shares .entry)) (now (room .entry))) (state (r .objects) (now (stuck .exit)) (now (shares .exit)) (now (room .exit))) ⌝ }
+{
+    let mut reached = marks;
+    let mut after: usize = 0;
+    while after < m {
+        let e = after;
+        after += 1;
+        if waits(e, stuck, shares, takes) {
+            reached = place(m, e, reached, stuck, shares, room, takes, ends, head, next);
+        }
+    }
+    reached
+}
