@@ -1,0 +1,139 @@
+-- Two outcomes that both fit a question agree: four of the questions determine the code and every byte written. The sheet is the one
+-- exception: two outcomes agree in the code and in how many bytes are written. Assumes nothing.
+use mathlib.Core.Path.{_≡_, sym, _∙_, ap, subst}
+use mathlib.Core.Logic.{inl, inr}
+use mathlib.Core.List.{List, []}
+use Prim.Native.Nat.{ℕ, zero, suc, _*_}
+use lib.IntN.{ℤ}
+use lib.ListN.{length, drop}
+use lib.Signed.{clashℤ}
+use Rattle.density.specs.Top.{LowestAbove, NoneAt}
+use Rattle.density.proofs.One.{answers-agree, lowest-one}
+use Rattle.drawing.specs.Entry.{Drawing}
+use Rattle.drawing.specs.Read.{Reading, refused, accepted, read}
+use Rattle.counter.specs.Weighed.{weighed}
+use Rattle.counter.specs.Outcome.{Outcome, answered, Question, Unless, Judged, Fits, over, Answers, Replies}
+use Rattle.counter.specs.Question.{lookOver, oneConstraint, anyDense, sheetFor, check, BlockOf, SheetOf}
+use Rattle.counter.proofs.Blocks.{block-same}
+use lib.Seq.{drop-at}
+use Rattle.counter.specs.Sheet.{sheetSize}
+
+-- the answer to q determines a part of the outcome
+abbrev pub Determines : {A : Type 0} → (Outcome → A) → Question → Type 0
+Determines part q = (d : Drawing) (o p : Outcome) → q .answer d o → q .answer d p → part o ≡ part p
+
+module _ {A : Type 0} (part : Outcome → A) (q : Question) (determined : Determines part q) where
+  judged-agree : (r : Reading) (o p : Outcome) → Judged q r o → Judged q r p → part o ≡ part p
+  judged-agree (refused n) o p x y = ap part (x ∙ sym y)
+  judged-agree (accepted d) o p x y = go (q .fault d) x y
+    where
+      go : (n : ℕ) → Unless n o (q .answer d o) → Unless n p (q .answer d p) → part o ≡ part p
+      go zero x y = determined d o p x y
+      go (suc n) x y = ap part (x ∙ sym y)
+
+  pub outcomes-agree : (s : List ℕ) (o p : Outcome) → Fits q s o → Fits q s p → part o ≡ part p
+  outcomes-agree s = judged-agree (read s)
+
+-- where q determines the outcome, two results that both fit the statement agree in the code and in every byte of the buffer
+pub results-agree : (q : Question) → Determines (λ o. o) q → (s : List ℕ) (r₁ r₂ : ℕ) (before after₁ after₂ : List ℕ)
+    → Answers q s r₁ before after₁ → Answers q s r₂ before after₂ → (r₁ ≡ r₂) × (after₁ ≡ after₂)
+results-agree q determined s r₁ r₂ before after₁ after₂ a b = (
+  a .result-is ∙ ap (λ (o : Outcome). o .code) same ∙ sym (b .result-is),
+  a .after-is ∙ ap (λ (o : Outcome). over (o .bytes) before) same ∙ sym (b .after-is),
+)
+  where
+    same : a .outcome ≡ b .outcome
+    same = outcomes-agree (λ o. o) q determined s (a .outcome) (b .outcome) (a .fits) (b .fits)
+
+-- ---- the five
+
+pub look-over-determines : (room : ℕ) → Determines (λ o. o) (lookOver room)
+look-over-determines room d o p x y = x ∙ sym y
+
+blocks-agree : (d : Drawing) (c : ℕ) (o p : Outcome) → BlockOf d c o → BlockOf d c p → o ≡ p
+unfolding weighed
+blocks-agree d c o p x y =
+    let both = answers-agree (weighed d) c (x .top) (y .top) (x .set) (y .set) (x .answer) (y .answer) in
+    x .is ∙ ap answered (block-same (length (d .objects)) c (x .top) (y .top) (x .set) (y .set) (both .0) (both .1)) ∙ sym (y .is)
+
+pub one-constraint-determines : (c room : ℕ) → Determines (λ o. o) (oneConstraint c room)
+one-constraint-determines c room d o p x y = blocks-agree d c o p x y
+
+-- the lowest constraint above K and none at K exclude each other
+lowest-clash : (d : Drawing) (k : ℤ) (c : ℕ) → LowestAbove (weighed d) k c → NoneAt (weighed d) k → ⊥
+lowest-clash d k c l none = clashℤ (l .above) (none c (l .top) (l .is) (l .top-is))
+
+pub any-dense-determines : (k : ℤ) (room : ℕ) → Determines (λ o. o) (anyDense k room)
+any-dense-determines k room d o p (inl x) (inl y) =
+    blocks-agree d (x .constraint) o p (x .block-of)
+    (subst (λ (c : ℕ). BlockOf d c p) (sym (lowest-one (weighed d) k (x .constraint) (y .constraint) (x .lowest) (y .lowest))) (y .block-of))
+any-dense-determines k room d o p (inl x) (inr y) = absurd (lowest-clash d k (x .constraint) (x .lowest) (y .none))
+any-dense-determines k room d o p (inr x) (inl y) = absurd (lowest-clash d k (y .constraint) (y .lowest) (x .none))
+any-dense-determines k room d o p (inr x) (inr y) = x .is ∙ sym (y .is)
+
+pub check-determines : (c : ℕ) (b : List ℕ) (z : ℤ) → Determines (λ o. o) (check c b z)
+check-determines c b z d o p (inl (x, e)) (inl (y, f)) = e ∙ sym f
+check-determines c b z d o p (inl (x, e)) (inr (y, f)) = absurd (y x)
+check-determines c b z d o p (inr (x, e)) (inl (y, f)) = absurd (x y)
+check-determines c b z d o p (inr (x, e)) (inr (y, f)) = e ∙ sym f
+
+-- the sheet: the code, and how many bytes are written
+pub record SizeOf : Type 0 where
+  pub code : ℕ
+  pub long : ℕ
+
+abbrev pub sizeOf : Outcome → SizeOf
+sizeOf o = record { code = o .code; long = length (o .bytes) }
+
+pub sheet-determines-size : (c room : ℕ) → Determines sizeOf (sheetFor c room)
+sheet-determines-size c room d o p x y = size x ∙ sym (size y)
+  where
+    size : {o : Outcome} → SheetOf d c o → sizeOf o ≡ record { code = 0; long = 4 * length (d .constraints) }
+    size z = ap sizeOf (z .is) ∙ ap (λ (n : ℕ). record { code = 0; long = n }) (z .long)
+
+-- every byte behind the sheet is as it was
+pub sheet-behind : (c : ℕ) {s : List ℕ} {r : ℕ} {before after : List ℕ} → Answers (sheetFor c (length before)) s r before after
+    → (d : Drawing) → read s ≡ accepted d → drop (sheetSize (length (d .constraints))) after ≡ drop (sheetSize (length (d .constraints))) before
+sheet-behind c {before = before} {after = after} a d is =
+    go (sheetFor c (length before) .fault d) (subst (λ (x : Reading). Judged (sheetFor c (length before)) x (a .outcome)) is (a .fits))
+  where
+    m : ℕ
+    m = length (d .constraints)
+
+    go : (f : ℕ) → Unless f (a .outcome) (SheetOf d c (a .outcome)) → drop (sheetSize m) after ≡ drop (sheetSize m) before
+    go zero x =
+        ap (drop (sheetSize m)) (a .after-is ∙ ap (λ (o : Outcome). over (o .bytes) before) (x .is))
+        ∙ drop-at (x .bytes) (drop (length (x .bytes)) before) (sheetSize m) (x .long)
+        ∙ ap (λ (k : ℕ). drop k before) (x .long)
+    go (suc f) e = ap (drop (sheetSize m)) (a .after-is ∙ ap (λ (o : Outcome). over (o .bytes) before) e)
+
+-- ---- two results of a call agree
+
+pub look-over-agrees : {s before after₁ after₂ : List ℕ} {r₁ r₂ : ℕ} → Answers (lookOver (length before)) s r₁ before after₁
+    → Answers (lookOver (length before)) s r₂ before after₂ → (r₁ ≡ r₂) × (after₁ ≡ after₂)
+look-over-agrees {s} {before} {after₁} {after₂} {r₁} {r₂} =
+    results-agree (lookOver (length before)) (look-over-determines (length before)) s r₁ r₂ before after₁ after₂
+
+pub one-constraint-agrees : (c : ℕ) {s before after₁ after₂ : List ℕ} {r₁ r₂ : ℕ} → Answers (oneConstraint c (length before)) s r₁ before after₁
+    → Answers (oneConstraint c (length before)) s r₂ before after₂ → (r₁ ≡ r₂) × (after₁ ≡ after₂)
+one-constraint-agrees c {s} {before} {after₁} {after₂} {r₁} {r₂} =
+    results-agree (oneConstraint c (length before)) (one-constraint-determines c (length before)) s r₁ r₂ before after₁ after₂
+
+pub any-dense-agrees : (k : ℤ) {s before after₁ after₂ : List ℕ} {r₁ r₂ : ℕ} → Answers (anyDense k (length before)) s r₁ before after₁
+    → Answers (anyDense k (length before)) s r₂ before after₂ → (r₁ ≡ r₂) × (after₁ ≡ after₂)
+any-dense-agrees k {s} {before} {after₁} {after₂} {r₁} {r₂} =
+    results-agree (anyDense k (length before)) (any-dense-determines k (length before)) s r₁ r₂ before after₁ after₂
+
+pub check-agrees : (c : ℕ) (b : List ℕ) (z : ℤ) {s : List ℕ} {r₁ r₂ : ℕ} → Replies (check c b z) s r₁ → Replies (check c b z) s r₂ → r₁ ≡ r₂
+check-agrees c b z {s} {r₁} {r₂} x y = results-agree (check c b z) (check-determines c b z) s r₁ r₂ [] [] [] x y .0
+
+-- the sheet: the code, and every byte behind the sheet
+pub sheet-agrees : (c : ℕ) {s before after₁ after₂ : List ℕ} {r₁ r₂ : ℕ} → Answers (sheetFor c (length before)) s r₁ before after₁
+    → Answers (sheetFor c (length before)) s r₂ before after₂ → (d : Drawing) → read s ≡ accepted d
+    → (r₁ ≡ r₂) × (drop (sheetSize (length (d .constraints))) after₁ ≡ drop (sheetSize (length (d .constraints))) after₂)
+sheet-agrees c {s} {before} x y d is = (
+  x .result-is
+      ∙ ap (λ (z : SizeOf). z .code) (outcomes-agree sizeOf (sheetFor c (length before)) (sheet-determines-size c (length before)) s (x .outcome) (y .outcome) (x .fits) (y .fits))
+      ∙ sym (y .result-is),
+  sheet-behind c x d is ∙ sym (sheet-behind c y d is),
+)

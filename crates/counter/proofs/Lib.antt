@@ -1,0 +1,16 @@
+pub mod Blocks
+pub mod Agree
+pub mod Decode
+pub mod Sizes
+pub mod Ready
+pub mod Counts
+pub mod Putting
+pub mod Entries
+pub mod Buffers
+pub mod DemandOne
+pub mod DemandTwo
+pub mod DemandThree
+pub mod Asking
+pub mod Sheets
+pub mod Adding
+pub mod Checks

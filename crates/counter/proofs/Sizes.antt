@@ -1,0 +1,53 @@
+-- Densities of an accepted drawing fit 16 bits. Assumes nothing.
+use mathlib.Core.Path.{sym}
+use Prim.Native.Nat.{ℕ, zero, suc, _*_, _≤_, _<_}
+use native.Mathlib.Omega.{arith}
+use lib.IntN.{ℤ}
+use lib.ListN.{length}
+use Rattle.density.specs.Sum.{sum, counted}
+use Rattle.density.specs.Net.{Set, holds}
+use Rattle.density.specs.Density.{held, free, density}
+use Rattle.density.specs.Top.{Top}
+use Rattle.density.proofs.Sums.{counted-le}
+use Rattle.drawing.specs.Entry.{Drawing}
+use Rattle.drawing.specs.Weight.{constraintWeight}
+use Rattle.counter.specs.Weighed.{weightOf, weighed, Within}
+use Rattle.counter.proofs.Decode.{Short}
+
+-- k terms of at most 15
+pub sum-light : (k : ℕ) (f : ℕ → ℕ) → ((i : ℕ) → i < k → f i ≤ 15) → sum k f ≤ 15 * k
+unfolding sum
+sum-light zero f h = omega arith
+sum-light (suc k) f h = omega (arith, sum-light k f (λ i l. h i (omega arith)), h k (omega arith))
+
+module _ (d : Drawing) (within : Within d) where
+  pub held-small : (S : Set) → held (weighed d) S ≤ 7680
+  unfolding held weighed
+  held-small S =
+      omega (
+        arith,
+        within .few-constraints,
+        sum-light (length (d .constraints)) (λ e. counted (holds (weighed d) S e) (constraintWeight d e))
+            (λ e l. omega (arith, counted-le (holds (weighed d) S e) (constraintWeight d e), within .light-constraints e l)),
+      )
+
+  pub free-small : (S : Set) → free (weighed d) S ≤ 1920
+  unfolding free weighed
+  free-small S =
+      omega (
+        arith,
+        within .few-objects,
+        sum-light (length (d .objects)) (λ v. counted (S v) (weightOf d v))
+            (λ v l. omega (arith, counted-le (S v) (weightOf d v), within .light-objects v l)),
+      )
+
+  pub top-short : (c : ℕ) (t : ℤ) → Top (weighed d) c t → Short t
+  unfolding density
+  top-short c t top =
+      record {
+        more = held (weighed d) (top .set);
+        less = free (weighed d) (top .set);
+        is = sym (top .reached .density-is);
+        high = omega (arith, held-small (top .set));
+        low = omega (arith, free-small (top .set));
+      }

@@ -1,0 +1,22 @@
+-- `one` meets its contract. Assumes nothing.
+use borrow.Author.Needs.{needs}
+use Rattle.counter.proofs.count.one.Statement.{statement}
+use Rattle.counter.proofs.count.one.Tie as tie
+
+nothing-requires : tie.Need-nothing-requires
+nothing-requires c κs = search needs
+
+answer-requires : tie.Need-answer-requires
+answer-requires c κs =
+    record {
+      fair = c .before .pre .countable .fair;
+      is = c .before .pre .is;
+      some = c .before .pre .countable .heavy (c .before .args .c) (c .before .pre .is);
+      spread = c .nothing .ensures;
+    }
+
+returns : tie.Need-returns
+returns c = search needs
+
+pub one-spec : {M : Type 1} → statement M
+one-spec = tie.close (tie.spec nothing-requires answer-requires returns)

@@ -1,0 +1,10 @@
+pub mod Weighed
+pub mod Block
+pub mod Sheet
+pub mod Range
+pub mod Outcome
+pub mod Counting
+pub mod Question
+pub mod Asked
+pub mod Written
+pub mod Checked

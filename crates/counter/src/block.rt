@@ -1,0 +1,73 @@
+// The answer block: constraint number, density, set.
+use crate::SET;
+use drawing::OBJECTS;
+ghost use mathlib.Core.Path.{_≡_};
+ghost use Prim.Native.Nat.{_+_, _<_, _≤_, _/_, _%_};
+ghost use lib.IntN.{subℕ};
+ghost use lib.ListN.{length, set};
+ghost use Rattle.density.specs.Sum.{counted};
+ghost use Rattle.drawing.specs.Fault.{mostObjects};
+ghost use Rattle.routes.specs.Arrays.{members};
+ghost use Rattle.counter.specs.Outcome.{over};
+ghost use Rattle.counter.specs.Block.{complement, setSize, setByte, setBytes, blockSize, block};
+
+// Writes a number in two bytes, the lower first.
+pub fn put_two(buffer: &mut [u8], at: usize, n: usize)
+    requires { ⌜ (at + 1 < length (now buffer)) × (n < 65536) ⌝ }
+    ensures { λ _. ⌜ now (buffer .exit) ≡ set (set (now (buffer .entry)) at (n % 256)) (at + 1) (n / 256 % 256) ⌝ }
+{
+    buffer[at] = (n % 256) as u8;
+    buffer[at + 1] = (n / 256 % 256) as u8;
+}
+
+// A density, above less below, as 16-bit two's complement.
+fn two_complement(above: usize, below: usize) -> usize
+    requires { ⌜ (above < 32768) × (below < 32768) ⌝ }
+    ensures { λ r. ⌜ (r ≡ complement (subℕ above below)) × (r < 65536) ⌝ }
+{
+    (above + 65536 - below) % 65536
+}
+
+// The value of a bit where object v is marked, else 0.
+fn bit(marks: &[u8; OBJECTS], v: usize, value: u8) -> u8
+    requires { ⌜ v < mostObjects ⌝ }
+    ensures { λ r. ⌜ (r ≡ counted (members (now (marks .entry)) v) value) × (r ≤ value) ⌝ }
+{
+    if marks[v] > 0 { value } else { 0 }
+}
+
+// Byte j of the set of marked objects.
+fn set_byte(marks: &[u8; OBJECTS], j: usize) -> u8
+    requires { ⌜ j < setSize ⌝ }
+    ensures { λ r. ⌜ r ≡ setByte mostObjects (members (now (marks .entry))) j ⌝ }
+{
+    let v = 8 * j;
+    let low = bit(marks, v, 1) + bit(marks, v + 1, 2) + bit(marks, v + 2, 4) + bit(marks, v + 3, 8);
+    low
+        + bit(marks, v + 4, 16)
+        + bit(marks, v + 5, 32)
+        + bit(marks, v + 6, 64)
+        + bit(marks, v + 7, 128)
+}
+
+// Writes the set of marked objects.
+pub fn put_set(marks: &[u8; OBJECTS], part: &mut [u8])
+    requires { ⌜ setSize ≤ length (now part) ⌝ }
+    ensures { λ _. ⌜ now (part .exit) ≡ over (setBytes mostObjects (members (now (marks .entry)))) (now (part .entry)) ⌝ }
+{
+    let mut j: usize = 0;
+    while j < SET {
+        part[j] = set_byte(marks, j);
+        j += 1;
+    }
+}
+
+// Writes the block of constraint c, whose density is above less below and whose set is marked.
+pub fn put_block(c: usize, above: usize, below: usize, marks: &[u8; OBJECTS], buffer: &mut [u8])
+    requires { ⌜ (c < 65536) × (above < 32768) × (below < 32768) × (blockSize ≤ length (now buffer)) ⌝ }
+    ensures { λ _. ⌜ now (buffer .exit) ≡ over (block mostObjects c (subℕ above below) (members (now (marks .entry)))) (now (buffer .entry)) ⌝ }
+{
+    put_two(buffer, 0, c);
+    put_two(buffer, 2, two_complement(above, below));
+    put_set(marks, &mut buffer[4..]);
+}
