@@ -1,0 +1,211 @@
+// One million mutated drawings through all five questions, with guard bytes round every buffer. A refused drawing has
+// the second program's code from every question. Of an accepted one the answers prove each other: a sound sheet whose
+// claim is the density of the answer set shows that no set that holds the constraint is denser.
+mod common;
+use common::Tally;
+use second::answers::members;
+use second::codes::*;
+use second::ffi::{self, Outcome};
+use second::frames::*;
+use second::net::Net;
+use second::questions::{Answer, BLOCK};
+use second::random::Random;
+use second::reader::{read, Drawing};
+use second::samples::{a_to_l, figures};
+use second::sheet::{claim, ROW};
+use second::writer;
+
+const MUTANTS: usize = 1_000_000;
+const ONE_IN_LARGE: usize = 200;
+
+#[test]
+fn a_million_mutated_drawings() {
+    let mut random = Random::from_seed(11);
+    let mut tally = Tally::default();
+    let (small, large) = (small_drawings(&mut random), large_drawings(&mut random));
+    let mut accepted = 0;
+    for _ in 0..MUTANTS {
+        let from = if random.once_in(ONE_IN_LARGE) { &large } else { &small };
+        let chosen = random.below(from.len());
+        let bytes = from[chosen].mutated(&mut random);
+        match read(&bytes) {
+            Ok(drawing) => {
+                accepted += 1;
+                Accepted { bytes: &bytes, net: Net::of(&drawing) }.every_question(&mut tally, &mut random);
+            }
+            Err(code) => refused(&mut tally, &mut random, &bytes, code),
+        }
+    }
+    assert!(accepted > MUTANTS / 10, "{accepted} accepted");
+    tally.assert_codes((0..=12).chain([32, 33]));
+}
+
+/// The bytes of a drawing, and where in them kinds, ends and stated weights are.
+struct Source {
+    bytes: Vec<u8>,
+    fields: Vec<usize>,
+}
+
+impl Source {
+    fn of(drawing: &Drawing) -> Source {
+        let mut source = Source { bytes: Vec::new(), fields: Vec::new() };
+        for record in writer::records(drawing) {
+            let at = source.bytes.len();
+            source.fields.extend([2, 4, 5, 6, 8, 9].iter().filter(|&&i| i < record.len()).map(|i| at + i));
+            source.bytes.extend(record);
+        }
+        source
+    }
+
+    /// The bytes with one to three of them altered, put in, taken out or cut off, or with a piece repeated elsewhere.
+    fn mutated(&self, random: &mut Random) -> Vec<u8> {
+        let mut bytes = self.bytes.clone();
+        for _ in 0..random.within(1, 3) {
+            let at = random.below(bytes.len() + 1);
+            let field = random.one_of(&self.fields);
+            match random.below(16) {
+                0..=7 if field < bytes.len() => bytes[field] = random.below(5) as u8,
+                8 if at < bytes.len() => bytes[at] = random.one_of(&[0, 1, 2, 3, 4, 6, 7, 8, 15, 16, 127, 128, 255]),
+                9 | 10 if at < bytes.len() => bytes[at] ^= 1 << random.below(8),
+                11 => bytes.insert(at, random.byte()),
+                12 if at < bytes.len() => drop(bytes.remove(at)),
+                13 if random.once_in(4) => bytes.truncate(at),
+                _ => {
+                    let piece = bytes[at..(at + random.one_of(&[4, 6, 10])).min(bytes.len())].to_vec();
+                    let to = if random.once_in(2) { at } else { random.below(bytes.len() + 1) };
+                    bytes.splice(to..to, piece);
+                }
+            }
+        }
+        bytes
+    }
+}
+
+fn small_drawings(random: &mut Random) -> Vec<Source> {
+    let mut drawings: Vec<Drawing> = a_to_l().into_iter().chain(figures()).map(|sample| sample.drawing).collect();
+    for size in 2..=20 {
+        drawings.push(random_kinds(random, size, 2 * size, 3));
+    }
+    drawings.iter().map(Source::of).collect()
+}
+
+/// Drawings at the limits, so that a record put in is one too many.
+fn large_drawings(random: &mut Random) -> Vec<Source> {
+    let drawings = [largest(random), random_points(random, 128, 253), distances(128, &[]), repeated_strip()];
+    drawings.iter().map(Source::of).collect()
+}
+
+/// Every question refuses the bytes with this code, whatever else is wrong with the call, and writes nothing.
+fn refused(tally: &mut Tally, random: &mut Random, bytes: &[u8], code: u32) {
+    let (c, k, room) = (random.one_of(&[0, 1, 65_536]), random.one_of(&[-3, 8192]), random.one_of(&[0, 4, BLOCK]));
+    let fill = random.byte();
+    let unwritten = |tally: &mut Tally, found: Outcome| same(tally, bytes, &found, code, &[], room, fill);
+    unwritten(tally, ffi::look_over(bytes, room, fill));
+    unwritten(tally, ffi::one_constraint(bytes, c, room, fill));
+    unwritten(tally, ffi::any_dense(bytes, k, room, fill));
+    unwritten(tally, ffi::sheet(bytes, c, room, fill));
+    assert_eq!(ffi::check(bytes, c, &[0; BLOCK][..room], 0), code, "check of {bytes:?}");
+}
+
+/// The call gave this code and wrote these bytes and no other.
+fn same(tally: &mut Tally, bytes: &[u8], found: &Outcome, code: u32, written: &[u8], room: usize, fill: u8) {
+    let wanted = Answer { code, written: written.to_vec() };
+    tally.compare(found, &wanted, room, fill, || format!("room {room}, {bytes:?}"));
+}
+
+struct Accepted<'a> {
+    bytes: &'a [u8],
+    net: Net,
+}
+
+impl Accepted<'_> {
+    fn every_question(&self, tally: &mut Tally, random: &mut Random) {
+        let (objects, count) = (self.net.objects.len(), self.net.constraints.len());
+        let counts = [(objects as u16).to_le_bytes(), (count as u16).to_le_bytes()].concat();
+        self.written(tally, random, &counts, &|room, fill| ffi::look_over(self.bytes, room, fill));
+        let none = random.one_of(&[count as u32, 65_536, u32::MAX]);
+        let rows = vec![0; ROW * count];
+        self.unwritten(tally, NO_SUCH_CONSTRAINT, &|room, fill| ffi::one_constraint(self.bytes, none, room, fill));
+        self.unwritten(tally, NO_SUCH_CONSTRAINT, &|room, fill| ffi::sheet(self.bytes, none, room, fill));
+        assert_eq!(ffi::check(self.bytes, none, &rows, 0), NO_SUCH_CONSTRAINT, "{:?}", self.bytes);
+        self.unwritten(tally, K_RANGE, &|room, fill| ffi::any_dense(self.bytes, 8192, room, fill));
+        if count == 0 {
+            self.unwritten(tally, NONE_DENSE, &|room, fill| ffi::any_dense(self.bytes, -64, room, fill));
+        } else {
+            let c = random.below(count);
+            let density = self.one_constraint(tally, random, c);
+            self.sheet(tally, random, c, density);
+            self.any_dense(tally, random, c, density);
+        }
+    }
+
+    /// The block of c is that of a set that holds c; answers its density.
+    fn one_constraint(&self, tally: &mut Tally, random: &mut Random, c: usize) -> i32 {
+        let block = self.block(c);
+        self.written(tally, random, &block, &|room, fill| ffi::one_constraint(self.bytes, c as u32, room, fill));
+        let set = u128::from_le_bytes(block[4..].try_into().expect("16 bytes"));
+        let inside = |v: usize| set >> v & 1 == 1;
+        let held: i64 =
+            self.net.constraints.iter().filter(|e| e.ends.iter().all(|&v| inside(v))).map(|e| e.weight).sum();
+        assert!(self.net.constraints[c].ends.iter().all(|&v| inside(v)), "the set holds {c} of {:?}", self.bytes);
+        assert!(members(set).all(|v| v < self.net.objects.len()), "unused bits of {c} of {:?}", self.bytes);
+        let free: i64 = members(set).map(|v| self.net.objects[v]).sum();
+        let density = i16::from_le_bytes([block[2], block[3]]);
+        assert_eq!((number(&block), i64::from(density)), (c, held - free), "constraint {c} of {:?}", self.bytes);
+        i32::from(density)
+    }
+
+    /// The sheet for c is sound and its claim is the density; the check accepts it so and not with another claim.
+    fn sheet(&self, tally: &mut Tally, random: &mut Random, c: usize, density: i32) {
+        let room = ROW * self.net.constraints.len();
+        let sheet = ffi::sheet(self.bytes, c as u32, room, 0).buffer().to_vec();
+        assert_eq!(claim(&self.net, c, &sheet), Some(i64::from(density)), "sheet {c} of {:?}", self.bytes);
+        self.written(tally, random, &sheet, &|room, fill| ffi::sheet(self.bytes, c as u32, room, fill));
+        let other = density + random.one_of(&[-1, 1, 65_536]);
+        for (sheet, claim, code) in
+            [(&sheet[..], density, ANSWERED), (&sheet[..], other, NOT_SHOWN), (&sheet[..room - 1], density, TOO_SHORT)]
+        {
+            assert_eq!(ffi::check(self.bytes, c as u32, sheet, claim), code, "check {c} of {:?}", self.bytes);
+            tally.count(code);
+        }
+    }
+
+    /// Near the density of c: a dense constraint has its own block and is c or lower where c is dense.
+    fn any_dense(&self, tally: &mut Tally, random: &mut Random, c: usize, density: i32) {
+        let k = density + random.within(0, 2) as i32 - 1;
+        let found = ffi::any_dense(self.bytes, k, BLOCK, 0);
+        if found.code == NONE_DENSE {
+            assert!(density <= k, "none at {k} of {:?}", self.bytes);
+            self.unwritten(tally, NONE_DENSE, &|room, fill| ffi::any_dense(self.bytes, k, room, fill));
+            return;
+        }
+        let dense = number(found.buffer());
+        let block = self.block(dense);
+        let above = i32::from(i16::from_le_bytes([block[2], block[3]])) > k;
+        assert!(above && (density <= k || dense <= c) && dense < self.net.constraints.len(), "{k} of {:?}", self.bytes);
+        self.written(tally, random, &block, &|room, fill| ffi::any_dense(self.bytes, k, room, fill));
+    }
+
+    fn block(&self, c: usize) -> Vec<u8> {
+        let found = ffi::one_constraint(self.bytes, c as u32, BLOCK, 0);
+        assert_eq!(found.code, ANSWERED, "constraint {c} of {:?}", self.bytes);
+        found.buffer().to_vec()
+    }
+
+    /// The call writes these bytes where there is room for them, and is refused where a byte is missing.
+    fn written(&self, tally: &mut Tally, random: &mut Random, bytes: &[u8], call: &dyn Fn(usize, u8) -> Outcome) {
+        let (fill, more) = (random.byte(), random.below(3));
+        let room = bytes.len() + more;
+        same(tally, self.bytes, &call(room, fill), ANSWERED, bytes, room, fill);
+        let short = bytes.len() - 1;
+        same(tally, self.bytes, &call(short, fill), TOO_SHORT, &[], short, fill);
+    }
+
+    fn unwritten(&self, tally: &mut Tally, code: u32, call: &dyn Fn(usize, u8) -> Outcome) {
+        same(tally, self.bytes, &call(BLOCK, 0x3c), code, &[], BLOCK, 0x3c);
+    }
+}
+
+fn number(block: &[u8]) -> usize {
+    usize::from(u16::from_le_bytes([block[0], block[1]]))
+}
