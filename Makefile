@@ -14,6 +14,9 @@ sources = crates.txt $(shell find crates -type f)
 root = $(DESTDIR)$(PREFIX)
 
 .PHONY: all install test report
+# Every run of rt writes to target/, so no two at once.
+.NOTPARALLEL:
+
 all: $(library) target/bin/report
 
 $(library): $(sources)

@@ -1,4 +1,4 @@
-// Links the proved library into the tests and the benchmark. `rt staticlib brentivex` writes the archive.
+//! Links the proved library into the tests and the benchmark. `rt staticlib brentivex` writes the archive.
 use std::{env, path::Path};
 
 fn main() {

@@ -1,19 +1,8 @@
 #!/usr/bin/env bash
 # Installs the library under temporary folders and builds and runs the C host from there, as a host's own build would.
 # It needs target/staticlib/libbrentivex.a, make, pkg-config, gcc and g++. The last line is 'N passed, M failed'.
-set -u
-cd "$(dirname "$0")/.." || { echo '0 passed, 1 failed'; exit 1; }
-work=$(mktemp -d)
-trap 'rm -rf "$work"' EXIT
-passed=0
-failed=0
-
-# try WHAT COMMAND..: counts whether the command succeeds.
-try() {
-    local what=$1
-    shift
-    if "$@"; then passed=$((passed + 1)); else failed=$((failed + 1)) && echo "FAILED: $what"; fi
-}
+# shellcheck source=tests/common.sh
+. "$(dirname "$0")/common.sh" || exit
 
 # The three files, and no other.
 files() {
@@ -26,6 +15,7 @@ build() {
     local program=$1 cflags libs
     shift
     cflags=$(pkg-config --cflags brentivex) && libs=$(pkg-config --libs brentivex) || return
+    # shellcheck disable=SC2086  # each is a list of words
     "$@" -O2 -Wall -Wextra -Werror -pedantic $cflags examples/host.c -x none $libs -o "$program"
 }
 
@@ -93,5 +83,4 @@ export PKG_CONFIG_PATH=$work/prefix/lib/pkgconfig
 installed "$work/prefix"
 try 'no undefined symbol beyond those named' symbols "$work/prefix"
 try 'the functions declared and no other' functions "$work/prefix"
-echo "$passed passed, $failed failed"
-[ "$failed" -eq 0 ]
+tally

@@ -1,6 +1,5 @@
-// Top density and answer set of every constraint by trying every set of objects. For few objects only.
-use crate::answers::Top;
-use crate::net::Net;
+//! Top density and answer set of every constraint by trying every set of objects. For few objects only.
+use crate::net::{Net, Top};
 
 pub fn tops(net: &Net) -> Vec<Top> {
     let densities = densities(net);

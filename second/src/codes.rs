@@ -1,4 +1,4 @@
-// The codes of every question, by name. 0 is answered, 1 to 12 are refusals, 32 and 33 are answers in the negative.
+//! The codes of every question, by name. 0 is answered, 1 to 12 are refusals, 32 and 33 are answers in the negative.
 pub const ANSWERED: u32 = 0;
 pub const CUT_SHORT: u32 = 1;
 pub const RECORD_KIND: u32 = 2;

@@ -1,12 +1,11 @@
-// Top density and answer set of a constraint by a minimum cut over the objects alone, for any number of objects.
-//
-// Let deg(v) be the weight of all constraints at v. Twice the weight that a set S holds is the sum of deg over S less
-// the weight that crosses its border, so with source arcs of deg(v), sink arcs of twice v's weight and each pair's
-// weight between its two objects, the cut at S costs (sum of all deg) - 2 density(S). Source arcs without limit to c's
-// two ends force them into S. The objects that the source still reaches once the flow is greatest lie inside the
-// source side of every least cut, so they are the answer set.
-use crate::answers::Top;
-use crate::net::Net;
+//! Top density and answer set of a constraint by a minimum cut over the objects alone, for any number of objects.
+//!
+//! Let deg(v) be the weight of all constraints at v. Twice the weight that a set S holds is the sum of deg over S less
+//! the weight that crosses its border, so with source arcs of deg(v), sink arcs of twice v's weight and each pair's
+//! weight between its two objects, the cut at S costs (sum of all deg) - 2 density(S). Source arcs without limit to c's
+//! two ends force them into S. The objects that the source still reaches once the flow is greatest lie inside the
+//! source side of every least cut, so they are the answer set.
+use crate::net::{Net, Top};
 use std::collections::VecDeque;
 
 const NO_LIMIT: i64 = 1 << 40;

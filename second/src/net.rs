@@ -1,18 +1,32 @@
-// The net of a drawing: weights in force and nothing else. A stated weight stands in the place of the table weight.
-// A set of objects is a word of 128 bits, object i at bit i.
+//! The net of a drawing: the weights in force and nothing else. A stated weight stands in the place of the table
+//! weight. A set of objects is a word of 128 bits, object i at bit i.
 use crate::reader::Drawing;
 use crate::table::{constraint_weight, object_weight};
 
+/// The two ends of a constraint and its weight in force.
 #[derive(Clone, Copy, Debug)]
-pub struct Tie {
+pub struct Constraint {
     pub ends: [usize; 2],
     pub weight: i64,
 }
 
+/// The weight of each object, and the constraints.
 #[derive(Clone, Debug, Default)]
 pub struct Net {
     pub objects: Vec<i64>,
-    pub constraints: Vec<Tie>,
+    pub constraints: Vec<Constraint>,
+}
+
+/// The top density of a constraint and its answer set.
+#[derive(Clone, Copy, Debug, PartialEq)]
+pub struct Top {
+    pub density: i64,
+    pub set: u128,
+}
+
+/// The objects in a set, ascending.
+pub fn members(set: u128) -> impl Iterator<Item = usize> {
+    (0..128).filter(move |i| set >> i & 1 == 1)
 }
 
 impl Net {
@@ -21,7 +35,7 @@ impl Net {
         let objects = drawing.objects.iter().map(|o| in_force(o.stated, object_weight(o.kind))).collect();
         let constraints = drawing.constraints.iter().map(|c| {
             let table = constraint_weight(c.kind, kind(c.ends[0]), kind(c.ends[1]));
-            Tie { ends: c.ends.map(usize::from), weight: in_force(c.stated, table) }
+            Constraint { ends: c.ends.map(usize::from), weight: in_force(c.stated, table) }
         });
         Net { objects, constraints: constraints.collect() }
     }
@@ -33,19 +47,19 @@ impl Net {
 
     /// The weights of the constraints that the set holds less the weights of its objects.
     pub fn density(&self, set: u128) -> i64 {
-        let held: i64 =
-            (0..self.constraints.len()).filter(|&c| self.holds(set, c)).map(|c| self.constraints[c].weight).sum();
-        let free: i64 = (0..self.objects.len()).filter(|&i| set >> i & 1 == 1).map(|i| self.objects[i]).sum();
-        held - free
+        let held = (0..self.constraints.len()).filter(|&c| self.holds(set, c));
+        let constraints: i64 = held.map(|c| self.constraints[c].weight).sum();
+        let objects: i64 = members(set).map(|i| self.objects[i]).sum();
+        constraints - objects
     }
 
     /// The weight between each pair of objects, over all constraints on the pair.
     pub fn between(&self) -> Vec<Vec<i64>> {
         let mut between = vec![vec![0; self.objects.len()]; self.objects.len()];
-        for tie in &self.constraints {
-            let [a, b] = tie.ends;
-            between[a][b] += tie.weight;
-            between[b][a] += tie.weight;
+        for constraint in &self.constraints {
+            let [a, b] = constraint.ends;
+            between[a][b] += constraint.weight;
+            between[b][a] += constraint.weight;
         }
         between
     }

@@ -1,8 +1,8 @@
-// The five questions, each with its code and the bytes it writes. The sheet question has no one answer, so of it
-// only the code is given here; `check` judges the sheet itself.
-use crate::answers::{any_dense, tops, Top};
+//! The five questions, each with its code and the bytes it writes. The sheet question has no one answer, so of it
+//! only the code is given here; `check` judges the sheet itself.
+use crate::answers::{any_dense, tops};
 use crate::codes::*;
-use crate::net::Net;
+use crate::net::{Net, Top};
 use crate::reader::read;
 use crate::sheet::{claim, ROW};
 

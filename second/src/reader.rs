@@ -1,5 +1,5 @@
-// The reader of drawings: records front to back, the first faulty one decides, and within one record the faults
-// are judged in the order head short, kind, length, body short, order, limit, ends, table, stated weight.
+//! The reader of drawings: records front to back, the first faulty one decides, and within one record the faults
+//! are judged in the order head short, kind, length, body short, order, limit, ends, table, stated weight.
 use crate::codes::*;
 use crate::table::{constraint_weight, object_weight};
 

@@ -1,6 +1,6 @@
-// The report on a drawing, as text: both counts, a line for each constraint, and whether any set is dense at K = -3.
-use crate::answers::{any_dense, members, tops};
-use crate::net::Net;
+//! The report on a drawing, as text: both counts, a line for each constraint, and whether any set is dense at K = -3.
+use crate::answers::{any_dense, tops};
+use crate::net::{members, Net};
 use crate::reader::read;
 
 /// So many bytes are read at most; a longer input is refused as this prefix of it is.

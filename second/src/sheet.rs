@@ -1,4 +1,4 @@
-// Sheets: two shares of two bytes for each constraint, what makes them sound, and what they claim.
+//! Sheets: two shares of two bytes for each constraint, what makes them sound, and what they claim.
 use crate::net::Net;
 
 pub const ROW: usize = 4;
@@ -7,15 +7,15 @@ pub const ROW: usize = 4;
 pub fn claim(net: &Net, c: usize, sheet: &[u8]) -> Option<i64> {
     let mut received = vec![0; net.objects.len()];
     let mut remainder = 0;
-    for (tie, row) in net.constraints.iter().zip(sheet.chunks_exact(ROW)) {
+    for (constraint, row) in net.constraints.iter().zip(sheet.chunks_exact(ROW)) {
         let shares = [i64::from(share(row, 0)), i64::from(share(row, 1))];
-        let left = tie.weight - shares[0] - shares[1];
+        let left = constraint.weight - shares[0] - shares[1];
         if left < 0 {
             return None;
         }
         remainder += left;
-        received[tie.ends[0]] += shares[0];
-        received[tie.ends[1]] += shares[1];
+        received[constraint.ends[0]] += shares[0];
+        received[constraint.ends[1]] += shares[1];
     }
     let ends = net.constraints[c].ends;
     let overfull = (0..received.len()).any(|v| received[v] > net.objects[v]);

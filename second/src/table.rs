@@ -1,4 +1,4 @@
-// The table of kinds: which objects there are, which constraints may stand between them, and what each weighs.
+//! The table of kinds: which objects there are, which constraints may stand between them, and what each weighs.
 
 /// The table weight of an object kind.
 pub fn object_weight(kind: u8) -> Option<u8> {

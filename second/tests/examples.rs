@@ -1,7 +1,8 @@
-// The sample drawings: each file of text makes the drawing beside it, whose report is the one stored, and A to L are
-// the paper's.
-use second::samples::a_to_l;
-use second::{report, text, writer};
+//! The sample drawings: each file of text makes the drawing beside it, whose report is the one stored, and A to L are
+//! those of document 01.
+use second::report;
+use second::testing::samples::a_to_l;
+use second::testing::{text, writer};
 use std::fs;
 use std::path::PathBuf;
 
@@ -45,7 +46,7 @@ fn each_drawing_has_the_report_beside_it() {
 }
 
 #[test]
-fn a_to_l_are_the_papers_drawings() {
+fn a_to_l_are_the_drawings_of_01() {
     for sample in a_to_l() {
         assert_eq!(writer::bytes(&sample.drawing), stored(sample.name, "drawing"), "{}", sample.name);
     }

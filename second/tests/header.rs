@@ -1,12 +1,12 @@
-// The C header: it compiles as C and as C++ with every warning an error, and its codes and sizes are the second
-// program's.
+//! The C header: it compiles as C and as C++ with every warning an error, and its codes and sizes are the second
+//! program's.
 use second::codes::*;
-use second::frames::largest;
 use second::questions::{BLOCK, COUNTS};
-use second::random::Random;
 use second::reader::{MOST_CONSTRAINTS, MOST_OBJECTS};
 use second::sheet::ROW;
-use second::writer;
+use second::testing::drawings::largest;
+use second::testing::random::Random;
+use second::testing::writer;
 use std::path::PathBuf;
 use std::process::Command;
 

@@ -1,9 +1,10 @@
-// Both sides of every limit that `look over` meets, each by its own name, with the paper's numbers written out.
-use second::ffi::{self, after};
-use second::frames::{constraint, distances, object, DISTANCE, POINT};
-use second::random::Random;
+//! Both sides of every limit that `look over` meets, each by its own name, with the numbers of document 01
+//! written out.
 use second::reader::Drawing;
-use second::{frames, writer};
+use second::testing::drawings::{constraint, distances, largest, object, DISTANCE, POINT};
+use second::testing::ffi::{self, after};
+use second::testing::random::Random;
+use second::testing::writer;
 
 fn counts(objects: u16, constraints: u16) -> Vec<u8> {
     [objects.to_le_bytes(), constraints.to_le_bytes()].concat()
@@ -41,7 +42,7 @@ fn constraints_512_pass_and_513_are_refused_5() {
 
 #[test]
 fn a_drawing_of_5892_bytes_passes() {
-    let bytes = writer::bytes(&frames::largest(&mut Random::from_seed(2)));
+    let bytes = writer::bytes(&largest(&mut Random::from_seed(2)));
     assert_eq!(bytes.len(), 5892);
     passes(&bytes, 4, 128, 512);
 }

@@ -1,12 +1,11 @@
-// One drawing, one answer: a drawing listed in another way (objects renumbered, constraints reordered, ends exchanged,
-// constraints on one pair joined) gets the same densities, the image of each answer set, and none at the same K.
-use second::answers::members;
-use second::frames::*;
-use second::net::Net;
-use second::random::Random;
+//! One drawing, one answer: a drawing listed in another way (objects renumbered, constraints reordered, ends exchanged,
+//! constraints on one pair joined) gets the same densities, the image of each answer set, and none at the same K.
+use second::net::{members, Net};
 use second::reader::{Drawing, MOST_WEIGHT};
-use second::samples::{a_to_l, figures};
-use second::{ffi, writer};
+use second::testing::drawings::*;
+use second::testing::random::Random;
+use second::testing::samples::{a_to_l, figures};
+use second::testing::{ffi, writer};
 
 /// Another listing, and where each object and each constraint stands in it.
 struct Listing {
@@ -69,23 +68,23 @@ impl Listing {
     }
 
     fn earlier_partner(&self, at: usize) -> Option<(usize, u8)> {
-        let ties = Net::of(&self.drawing).constraints;
-        let [a, b] = ties[at].ends;
+        let constraints = Net::of(&self.drawing).constraints;
+        let [a, b] = constraints[at].ends;
         let partner = (0..at).find(|&c| {
-            let same = ties[c].ends == [a, b] || ties[c].ends == [b, a];
-            same && ties[c].weight + ties[at].weight <= i64::from(MOST_WEIGHT)
+            let same = constraints[c].ends == [a, b] || constraints[c].ends == [b, a];
+            same && constraints[c].weight + constraints[at].weight <= i64::from(MOST_WEIGHT)
         })?;
-        Some((partner, (ties[partner].weight + ties[at].weight) as u8))
+        Some((partner, (constraints[partner].weight + constraints[at].weight) as u8))
     }
 }
 
 /// The library's answers for each constraint of a drawing: density and set.
-fn answers(drawing: &[u8], count: usize) -> Vec<(i16, u128)> {
+fn answers(drawing: &[u8], count: usize) -> Vec<(i32, u128)> {
     let answer = |c| {
         let found = ffi::one_constraint(drawing, c as u32, 20, 0);
         assert_eq!(found.code, 0);
-        let block = found.buffer();
-        (i16::from_le_bytes([block[2], block[3]]), u128::from_le_bytes(block[4..].try_into().expect("16 bytes")))
+        let (_, density, set) = found.block();
+        (density, set)
     };
     (0..count).map(answer).collect()
 }
@@ -100,7 +99,7 @@ fn correspond(drawing: &Drawing, listing: &Listing) {
     }
     let near = found.iter().flat_map(|(density, _)| [density - 1, *density]);
     for k in near.chain([-64, -4, -3, 8191]) {
-        let code = |bytes| ffi::any_dense(bytes, i32::from(k), 20, 0).code;
+        let code = |bytes| ffi::any_dense(bytes, k, 20, 0).code;
         assert_eq!(code(&bytes), code(&other_bytes), "K {k} of {drawing:?}");
     }
 }
@@ -142,8 +141,8 @@ fn listings_of_random_drawings_correspond() {
 #[test]
 fn listings_of_large_drawings_correspond() {
     let mut random = Random::from_seed(8);
-    let frames = [braced_strip(63), long_chain(100, 3, false), loose_tail(6, 122, true), largest(&mut random)];
-    for drawing in frames {
+    let drawings = [braced_strip(63), long_chain(100, 3, false), loose_tail(6, 122, true), largest(&mut random)];
+    for drawing in drawings {
         let all =
             Listing::same(&drawing).renumbered(&mut random).exchanged(&mut random).reordered(&mut random).joined();
         correspond(&drawing, &all);

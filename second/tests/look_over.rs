@@ -1,13 +1,14 @@
-// `look over` call by call against the second program: every code, every byte of the buffer and of its guard bytes.
+//! `look over` call by call against the second program: every code, every byte of the buffer and of its guard bytes.
 mod common;
-use common::{damaged, Tally};
+use common::Tally;
 use second::codes::*;
-use second::frames::{constraint, distances, object, DISTANCE, POINT};
-use second::random::Random;
 use second::reader::Drawing;
-use second::samples::{a_to_l, figures};
-use second::writer::{self, constraint_record, end_record, object_record, record};
-use second::{ffi, frames};
+use second::testing::drawings::{constraint, distances, largest, object, random_kinds, DISTANCE, POINT};
+use second::testing::ffi;
+use second::testing::mutants::Source;
+use second::testing::random::Random;
+use second::testing::samples::{a_to_l, figures};
+use second::testing::writer::{self, constraint_record, end_record, object_record, record};
 
 const ROOMS: [usize; 6] = [0, 3, 4, 5, 20, 64];
 
@@ -29,7 +30,7 @@ fn more_than_200_000_drawings_and_every_code() {
     largest_truncated(&mut tally, &mut random);
     random_bytes(&mut tally, &mut random);
     random_records(&mut tally, &mut random);
-    random_damage(&mut tally, &mut random, &drawings);
+    mutants(&mut tally, &mut random, &drawings);
     assert!(tally.calls >= 200_000, "{} calls", tally.calls);
     tally.assert_codes((0..=9).chain([12]));
 }
@@ -61,9 +62,9 @@ fn sizes(tally: &mut Tally) {
 fn valid_drawings(random: &mut Random) -> Vec<Drawing> {
     let mut drawings: Vec<Drawing> = a_to_l().into_iter().chain(figures()).map(|sample| sample.drawing).collect();
     for size in 1..=12 {
-        drawings.push(frames::random_kinds(random, size, 2 * size, 3));
+        drawings.push(random_kinds(random, size, 2 * size, 3));
     }
-    drawings.push(frames::random_kinds(random, 127, 300, 3));
+    drawings.push(random_kinds(random, 127, 300, 3));
     drawings
 }
 
@@ -77,7 +78,7 @@ fn truncated(tally: &mut Tally, drawing: &Drawing) {
 }
 
 fn largest_truncated(tally: &mut Tally, random: &mut Random) {
-    let bytes = writer::bytes(&frames::largest(random));
+    let bytes = writer::bytes(&largest(random));
     for end in 0..=bytes.len() {
         tally.look_over(&bytes[..end], 4);
     }
@@ -164,7 +165,7 @@ fn random_records(tally: &mut Tally, random: &mut Random) {
             bytes.extend(match random.below(12) {
                 0 => likely_object(random),
                 1 => record(random.below(5) as u16, &vec![1; random.below(8)]),
-                2 => constraint_record(&frames::constraint(0, 1, likely_kind(random), random.within(0, 20) as u8)),
+                2 => constraint_record(&constraint(0, 1, likely_kind(random), random.within(0, 20) as u8)),
                 _ => constraint_record(&likely),
             });
         }
@@ -183,10 +184,11 @@ fn likely_kind(random: &mut Random) -> u8 {
     random.below(9) as u8
 }
 
-fn random_damage(tally: &mut Tally, random: &mut Random, drawings: &[Drawing]) {
+fn mutants(tally: &mut Tally, random: &mut Random, drawings: &[Drawing]) {
+    let sources: Vec<Source> = drawings.iter().map(Source::of).collect();
     for _ in 0..3_000 {
-        for drawing in drawings {
-            let bytes = damaged(random, drawing);
+        for source in &sources {
+            let bytes = source.mutant(random);
             tally.look_over(&bytes, random.one_of(&ROOMS));
         }
     }

@@ -1,9 +1,11 @@
-// The second program against itself and the paper: both of its methods agree, and the known results come out.
-use second::answers::{any_dense, members, tops};
-use second::net::Net;
-use second::random::Random;
-use second::samples::{a_to_l, figures};
-use second::{brute, cut, frames, reader, report, writer};
+//! The second program against itself and document 01: both of its methods agree, and the known results come out.
+use second::answers::{any_dense, tops};
+use second::net::{members, Net};
+use second::testing::drawings::{loose_tail, random_kinds, random_points};
+use second::testing::random::Random;
+use second::testing::samples::{a_to_l, figures};
+use second::testing::writer;
+use second::{brute, cut, reader, report};
 
 #[test]
 fn known_results_come_out_by_both_methods() {
@@ -31,8 +33,8 @@ fn brute_force_and_cuts_agree() {
         let (objects, count) = (random.within(2, 9), random.within(1, 24));
         let often = random.within(1, 6);
         let drawing = match random.below(2) {
-            0 => frames::random_kinds(&mut random, objects, count, often),
-            _ => frames::random_points(&mut random, objects, count),
+            0 => random_kinds(&mut random, objects, count, often),
+            _ => random_points(&mut random, objects, count),
         };
         let net = Net::of(&drawing);
         assert_eq!(brute::tops(&net), cut::tops(&net), "{drawing:?}");
@@ -41,8 +43,8 @@ fn brute_force_and_cuts_agree() {
 }
 
 #[test]
-fn the_cut_finds_a_tight_part_among_128_objects() {
-    let drawing = frames::loose_tail(4, 124, true);
+fn the_cut_finds_a_dense_set_among_128_objects() {
+    let drawing = loose_tail(4, 124, true);
     let tops = tops(&Net::of(&drawing));
     let last = tops.len() - 1;
     assert_eq!((tops[last].density, tops[last].set), (-2, 0b1111));
@@ -50,7 +52,7 @@ fn the_cut_finds_a_tight_part_among_128_objects() {
 }
 
 #[test]
-fn the_report_on_c_is_the_papers() {
+fn the_report_on_c_is_that_of_01() {
     let c = &a_to_l()[2];
     let bytes = writer::bytes(&c.drawing);
     assert_eq!(bytes.len(), 52);

@@ -1,19 +1,18 @@
-// One million mutated drawings through all five questions, with guard bytes round every buffer. A refused drawing has
-// the second program's code from every question. Of an accepted one the answers prove each other: a sound sheet whose
-// claim is the density of the answer set shows that no set that holds the constraint is denser.
+//! One million mutated drawings through all five questions, with guard bytes round every buffer. A refused drawing has
+//! the second program's code from every question. Of an accepted one the answers prove each other: a sound sheet whose
+//! claim is the density of the answer set shows that no set that holds the constraint is denser.
 mod common;
 use common::Tally;
-use second::answers::members;
 use second::codes::*;
-use second::ffi::{self, Outcome};
-use second::frames::*;
-use second::net::Net;
+use second::net::{members, Net};
 use second::questions::{Answer, BLOCK};
-use second::random::Random;
 use second::reader::{read, Drawing};
-use second::samples::{a_to_l, figures};
 use second::sheet::{claim, ROW};
-use second::writer;
+use second::testing::drawings::*;
+use second::testing::ffi::{self, Outcome};
+use second::testing::mutants::Source;
+use second::testing::random::Random;
+use second::testing::samples::{a_to_l, figures};
 
 const MUTANTS: usize = 1_000_000;
 const ONE_IN_LARGE: usize = 200;
@@ -27,7 +26,7 @@ fn a_million_mutated_drawings() {
     for _ in 0..MUTANTS {
         let from = if random.once_in(ONE_IN_LARGE) { &large } else { &small };
         let chosen = random.below(from.len());
-        let bytes = from[chosen].mutated(&mut random);
+        let bytes = from[chosen].mutant(&mut random);
         match read(&bytes) {
             Ok(drawing) => {
                 accepted += 1;
@@ -38,47 +37,6 @@ fn a_million_mutated_drawings() {
     }
     assert!(accepted > MUTANTS / 10, "{accepted} accepted");
     tally.assert_codes((0..=12).chain([32, 33]));
-}
-
-/// The bytes of a drawing, and where in them kinds, ends and stated weights are.
-struct Source {
-    bytes: Vec<u8>,
-    fields: Vec<usize>,
-}
-
-impl Source {
-    fn of(drawing: &Drawing) -> Source {
-        let mut source = Source { bytes: Vec::new(), fields: Vec::new() };
-        for record in writer::records(drawing) {
-            let at = source.bytes.len();
-            source.fields.extend([2, 4, 5, 6, 8, 9].iter().filter(|&&i| i < record.len()).map(|i| at + i));
-            source.bytes.extend(record);
-        }
-        source
-    }
-
-    /// The bytes with one to three of them altered, put in, taken out or cut off, or with a piece repeated elsewhere.
-    fn mutated(&self, random: &mut Random) -> Vec<u8> {
-        let mut bytes = self.bytes.clone();
-        for _ in 0..random.within(1, 3) {
-            let at = random.below(bytes.len() + 1);
-            let field = random.one_of(&self.fields);
-            match random.below(16) {
-                0..=7 if field < bytes.len() => bytes[field] = random.below(5) as u8,
-                8 if at < bytes.len() => bytes[at] = random.one_of(&[0, 1, 2, 3, 4, 6, 7, 8, 15, 16, 127, 128, 255]),
-                9 | 10 if at < bytes.len() => bytes[at] ^= 1 << random.below(8),
-                11 => bytes.insert(at, random.byte()),
-                12 if at < bytes.len() => drop(bytes.remove(at)),
-                13 if random.once_in(4) => bytes.truncate(at),
-                _ => {
-                    let piece = bytes[at..(at + random.one_of(&[4, 6, 10])).min(bytes.len())].to_vec();
-                    let to = if random.once_in(2) { at } else { random.below(bytes.len() + 1) };
-                    bytes.splice(to..to, piece);
-                }
-            }
-        }
-        bytes
-    }
 }
 
 fn small_drawings(random: &mut Random) -> Vec<Source> {
@@ -141,18 +99,15 @@ impl Accepted<'_> {
 
     /// The block of c is that of a set that holds c; answers its density.
     fn one_constraint(&self, tally: &mut Tally, random: &mut Random, c: usize) -> i32 {
-        let block = self.block(c);
-        self.written(tally, random, &block, &|room, fill| ffi::one_constraint(self.bytes, c as u32, room, fill));
-        let set = u128::from_le_bytes(block[4..].try_into().expect("16 bytes"));
-        let inside = |v: usize| set >> v & 1 == 1;
-        let held: i64 =
-            self.net.constraints.iter().filter(|e| e.ends.iter().all(|&v| inside(v))).map(|e| e.weight).sum();
-        assert!(self.net.constraints[c].ends.iter().all(|&v| inside(v)), "the set holds {c} of {:?}", self.bytes);
+        let found = self.found(c);
+        let (number, density, set) = found.block();
+        let block = found.buffer();
+        self.written(tally, random, block, &|room, fill| ffi::one_constraint(self.bytes, c as u32, room, fill));
+        assert!(self.net.holds(set, c), "the set holds {c} of {:?}", self.bytes);
         assert!(members(set).all(|v| v < self.net.objects.len()), "unused bits of {c} of {:?}", self.bytes);
-        let free: i64 = members(set).map(|v| self.net.objects[v]).sum();
-        let density = i16::from_le_bytes([block[2], block[3]]);
-        assert_eq!((number(&block), i64::from(density)), (c, held - free), "constraint {c} of {:?}", self.bytes);
-        i32::from(density)
+        let wanted = (c, self.net.density(set));
+        assert_eq!((number, i64::from(density)), wanted, "constraint {c} of {:?}", self.bytes);
+        density
     }
 
     /// The sheet for c is sound and its claim is the density; the check accepts it so and not with another claim.
@@ -179,17 +134,19 @@ impl Accepted<'_> {
             self.unwritten(tally, NONE_DENSE, &|room, fill| ffi::any_dense(self.bytes, k, room, fill));
             return;
         }
-        let dense = number(found.buffer());
-        let block = self.block(dense);
-        let above = i32::from(i16::from_le_bytes([block[2], block[3]])) > k;
-        assert!(above && (density <= k || dense <= c) && dense < self.net.constraints.len(), "{k} of {:?}", self.bytes);
-        self.written(tally, random, &block, &|room, fill| ffi::any_dense(self.bytes, k, room, fill));
+        let (dense, _, _) = found.block();
+        let own = self.found(dense);
+        let (_, top, _) = own.block();
+        let first = density <= k || dense <= c;
+        assert!(top > k && first && dense < self.net.constraints.len(), "{k} of {:?}", self.bytes);
+        self.written(tally, random, own.buffer(), &|room, fill| ffi::any_dense(self.bytes, k, room, fill));
     }
 
-    fn block(&self, c: usize) -> Vec<u8> {
+    /// What the library answers for c.
+    fn found(&self, c: usize) -> Outcome {
         let found = ffi::one_constraint(self.bytes, c as u32, BLOCK, 0);
         assert_eq!(found.code, ANSWERED, "constraint {c} of {:?}", self.bytes);
-        found.buffer().to_vec()
+        found
     }
 
     /// The call writes these bytes where there is room for them, and is refused where a byte is missing.
@@ -204,8 +161,4 @@ impl Accepted<'_> {
     fn unwritten(&self, tally: &mut Tally, code: u32, call: &dyn Fn(usize, u8) -> Outcome) {
         same(tally, self.bytes, &call(BLOCK, 0x3c), code, &[], BLOCK, 0x3c);
     }
-}
-
-fn number(block: &[u8]) -> usize {
-    usize::from(u16::from_le_bytes([block[0], block[1]]))
 }

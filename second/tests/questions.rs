@@ -1,15 +1,16 @@
-// All five questions against the second program: every code and byte, on drawings of every build.
+//! All five questions against the second program: every code and byte, on drawings of every build.
 mod common;
 use common::asked::{Asked, KS, NUMBERS_OF_NO_CONSTRAINT};
-use common::{damaged, Tally};
-use second::frames::*;
-use second::random::Random;
+use common::Tally;
 use second::reader::Drawing;
-use second::samples::{a_to_l, figures, Sample};
-use second::{ffi, writer};
+use second::testing::drawings::*;
+use second::testing::mutants::Source;
+use second::testing::random::Random;
+use second::testing::samples::{a_to_l, figures, Sample};
+use second::testing::{ffi, writer};
 
 #[test]
-fn drawings_a_to_l_give_the_papers_results() {
+fn drawings_a_to_l_give_the_results_of_01() {
     a_to_l().iter().for_each(known_results);
 }
 
@@ -57,9 +58,9 @@ fn more_than_20_000_drawings_and_every_code() {
     };
     for round in 0..5_000 {
         let small = small_drawings(&mut random, round);
-        let faulty = damaged(&mut random, &small[round % small.len()]);
+        let mutant = Source::of(&small[round % small.len()]).mutant(&mut random);
         small.iter().for_each(|drawing| ask(&mut random, writer::bytes(drawing)));
-        ask(&mut random, faulty);
+        ask(&mut random, mutant);
     }
     for _ in 0..60 {
         let middling = middling_drawings(&mut random);
@@ -86,7 +87,7 @@ fn small_drawings(random: &mut Random, round: usize) -> Vec<Drawing> {
     let base = drawings[round % drawings.len()].clone();
     drawings.push(with_parallels(random, base, 4));
     let (figure, tail) = (random.within(2, 5), random.within(1, 5));
-    let frame = match round % 5 {
+    let built = match round % 5 {
         0 => braced_strip(random.within(1, 4)),
         1 => complete_figure(random.within(2, 9)),
         2 => joined_parts(figure, random.within(2, 4), random.within(1, 3)),
@@ -94,7 +95,7 @@ fn small_drawings(random: &mut Random, round: usize) -> Vec<Drawing> {
         _ => long_chain(random.within(2, 10), random.within(1, 3), random.once_in(2)),
     };
     let often = random.within(2, 8);
-    drawings.push(if random.once_in(2) { with_stated(random, frame, often) } else { frame });
+    drawings.push(if random.once_in(2) { with_stated(random, built, often) } else { built });
     drawings
 }
 

@@ -1,15 +1,16 @@
-// The report program against the second program's report: every byte that it prints, on many inputs.
-use second::frames::*;
-use second::random::Random;
-use second::samples::{a_to_l, figures};
-use second::{report, writer};
+//! The report program against the second program's report: every byte that it prints, on many inputs.
+use second::report;
+use second::testing::drawings::*;
+use second::testing::random::Random;
+use second::testing::samples::{a_to_l, figures};
+use second::testing::writer;
 use std::fs;
 use std::io::Write;
 use std::path::PathBuf;
 use std::process::{Command, Stdio};
 
 #[test]
-fn the_report_on_c_is_the_papers() {
+fn the_report_on_c_is_that_of_01() {
     let c = writer::bytes(&a_to_l()[2].drawing);
     assert_eq!(printed(&c), "objects 3 constraints 3\n0 -3 0 1\n1 -3 1 2\n2 -3 0 2\nK -3 none\n");
 }

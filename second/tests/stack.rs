@@ -1,10 +1,10 @@
-// The stack that the header names is enough: the questions on drawings with the longest routes, on a thread with no
-// more than that and what the thread itself and the test's own calls take.
-use second::ffi;
-use second::frames::*;
-use second::random::Random;
+//! The stack that the header names is enough: the questions on drawings with the longest routes, on a thread with no
+//! more than that and what the thread itself and the test's own calls take.
 use second::reader::Drawing;
-use second::writer;
+use second::testing::drawings::*;
+use second::testing::ffi;
+use second::testing::random::Random;
+use second::testing::writer;
 use std::path::PathBuf;
 use std::thread;
 
@@ -16,14 +16,11 @@ fn the_stack_that_the_header_names_is_enough() {
     let mut drawings = vec![braced_strip(63), repeated_strip(), loose_tail(6, 122, true)];
     drawings.extend([false, true].map(|backwards| long_chain(128, 4, backwards)));
     drawings.extend([largest(&mut random), heavy_points(&mut random), random_points(&mut random, 128, 253)]);
-    let lent: Vec<(Vec<u8>, usize)> = drawings.iter().map(lent).collect();
-    let asking = move || lent.iter().for_each(|(bytes, count)| ask(bytes, *count));
+    let lent = |drawing: &Drawing| (writer::bytes(drawing), drawing.constraints.len());
+    let drawings: Vec<(Vec<u8>, usize)> = drawings.iter().map(lent).collect();
+    let asking = move || drawings.iter().for_each(|(bytes, count)| ask(bytes, *count));
     let started = thread::Builder::new().stack_size(named_by_the_header() + OWN).spawn(asking);
     started.expect("a thread starts").join().expect("the calls end");
-}
-
-fn lent(drawing: &Drawing) -> (Vec<u8>, usize) {
-    (writer::bytes(drawing), drawing.constraints.len())
 }
 
 fn ask(bytes: &[u8], count: usize) {

@@ -1,9 +1,9 @@
-// Several threads at once, all on the same drawings, get the bytes that one thread alone got, the sheets' too.
-use second::ffi;
-use second::frames::*;
-use second::random::Random;
+//! Several threads at once, all on the same drawings, get the bytes that one thread alone got, the sheets' too.
 use second::reader::Drawing;
-use second::writer;
+use second::testing::drawings::*;
+use second::testing::ffi;
+use second::testing::random::Random;
+use second::testing::writer;
 use std::sync::Barrier;
 
 const THREADS: usize = 4;
@@ -14,6 +14,7 @@ fn several_threads_at_once_get_the_bytes_that_one_gets() {
     let mut random = Random::from_seed(12);
     let mut drawings = vec![complete_figure(4), braced_strip(20), long_chain(128, 4, true), repeated_strip()];
     drawings.extend([largest(&mut random), random_points(&mut random, 128, 253), random_kinds(&mut random, 20, 40, 3)]);
+    let lent = |drawing: &Drawing| (writer::bytes(drawing), drawing.constraints.len());
     let drawings: Vec<(Vec<u8>, usize)> = drawings.iter().map(lent).collect();
     let alone: Vec<Vec<u8>> = drawings.iter().map(|(bytes, count)| answers(bytes, *count)).collect();
     let start = Barrier::new(THREADS);
@@ -31,10 +32,6 @@ fn several_threads_at_once_get_the_bytes_that_one_gets() {
     });
 }
 
-fn lent(drawing: &Drawing) -> (Vec<u8>, usize) {
-    (writer::bytes(drawing), drawing.constraints.len())
-}
-
 /// Every code and byte that the five questions give, on a few constraints.
 fn answers(bytes: &[u8], count: usize) -> Vec<u8> {
     let mut all = ffi::look_over(bytes, 4, 0).bytes;
@@ -45,8 +42,8 @@ fn answers(bytes: &[u8], count: usize) -> Vec<u8> {
     }
     for c in [0, count / 2, count - 1] {
         let (block, sheet) = (ffi::one_constraint(bytes, c as u32, 20, 0), ffi::sheet(bytes, c as u32, 4 * count, 0));
-        let density = i16::from_le_bytes([block.buffer()[2], block.buffer()[3]]);
-        let check = ffi::check(bytes, c as u32, sheet.buffer(), i32::from(density));
+        let (_, density, _) = block.block();
+        let check = ffi::check(bytes, c as u32, sheet.buffer(), density);
         all.extend([block.code, sheet.code, check].map(|code| code as u8));
         all.extend(block.bytes.iter().chain(&sheet.bytes));
     }

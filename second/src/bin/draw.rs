@@ -1,5 +1,6 @@
-// Makes a drawing from text: reads the text of src/text.rs on standard input, writes the drawing's bytes.
-use second::{text, writer};
+//! Makes a drawing from text: reads the text on standard input, as `second::testing::text` has it, and writes the
+//! drawing's bytes.
+use second::testing::{text, writer};
 use std::io::{self, Read, Write};
 use std::process::ExitCode;
 

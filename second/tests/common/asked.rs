@@ -1,9 +1,9 @@
-// The questions beside look over, asked of the library and compared with the second program.
+//! The questions beside look over, asked of the library and compared with the second program.
 use super::Tally;
 use second::codes::ANSWERED;
 use second::questions::{Answer, Counter, BLOCK};
 use second::sheet::{claim, ROW};
-use second::{ffi, random::Random};
+use second::testing::{ffi, random::Random};
 
 pub const NUMBERS_OF_NO_CONSTRAINT: [u32; 4] = [65_536, 1 << 31, u32::MAX, u32::MAX - 65_535];
 pub const KS: [i32; 10] = [-65, -64, -4, -3, -2, 0, 8191, 8192, i32::MIN, i32::MAX];

@@ -1,24 +1,26 @@
-// The counting part of the benchmark: any dense at K = 8,191, which works every constraint from one base and finds none;
-// every constraint from nothing; and one constraint, on drawings at the limits. Reading is shown apart and is in none of
-// the other times; those start from the drawing as read, so they include its weights and chains.
+//! The counting part of the benchmark, on drawings at the limits: any dense at K = 8,191, which works every constraint
+//! from one base and finds none; every constraint from nothing; and one constraint. Reading is shown apart and is in
+//! none of the other times; those start from the drawing as read, so they include its weights and chains.
 use crate::routes::Chains;
 use crate::{look_over_time, time};
-use second::ffi::c::{brentivex_any_dense, brentivex_one_constraint};
+use second::codes;
 use second::net::Net;
-use second::random::Random;
 use second::reader::{read, Drawing};
-use second::{codes, frames, writer};
+use second::testing::drawings::*;
+use second::testing::ffi::c::{brentivex_any_dense, brentivex_one_constraint};
+use second::testing::random::Random;
+use second::testing::writer;
 use std::hint::black_box;
 
 const K: i32 = 8191;
 
 pub fn all() {
     let mut random = Random::from_seed(2);
-    compare("random, all kinds", &frames::largest(&mut random));
-    compare("random points", &frames::random_points(&mut random, 128, 512));
-    compare("braced strip", &frames::repeated_strip());
-    compare("objects of weight 4", &frames::heavy_points(&mut random));
-    compare("chain with long routes", &frames::long_chain(128, 385, true));
+    compare("random, all kinds", &largest(&mut random));
+    compare("random points", &random_points(&mut random, 128, 512));
+    compare("braced strip", &repeated_strip());
+    compare("objects of weight 4", &heavy_points(&mut random));
+    compare("chain with long routes", &long_chain(128, 385, true));
 }
 
 fn compare(name: &str, drawing: &Drawing) {

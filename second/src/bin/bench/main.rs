@@ -1,12 +1,14 @@
-// Times the library against plain Rust on the same drawings, in nanoseconds a call (the least of several rounds):
-// `look over` against the second program's reader, and the counting questions against the same method in plain Rust.
-// Run it with --release. Buffers are not cleared between calls.
+//! Times the library against plain Rust on the same drawings, in nanoseconds a call (the least of several rounds):
+//! `look over` against the second program's reader, and the counting questions against the same method in plain Rust.
+//! Run it with --release. Buffers are not cleared between calls.
 mod counting;
 mod routes;
 
-use second::ffi::c::brentivex_look_over;
-use second::random::Random;
-use second::{frames, reader, writer};
+use second::reader;
+use second::testing::drawings::largest;
+use second::testing::ffi::c::brentivex_look_over;
+use second::testing::random::Random;
+use second::testing::writer;
 use std::hint::black_box;
 use std::time::{Duration, Instant};
 
@@ -14,7 +16,7 @@ const ROUNDS: usize = 7;
 const ROUND: Duration = Duration::from_millis(40);
 
 fn main() {
-    let largest = writer::bytes(&frames::largest(&mut Random::from_seed(1)));
+    let largest = writer::bytes(&largest(&mut Random::from_seed(1)));
     let library = look_over_time(&largest);
     let plain = time(|| reader::read(black_box(&largest)));
     println!(

@@ -1,10 +1,9 @@
-// Shares moved along routes, in plain Rust: the library's own method, for the benchmark to time it against.
-//
-// Incidence 2e is the first end of constraint e, 2e + 1 its second. The incidences at an object form a chain, in
-// which 0 ends the chain and i + 1 stands for incidence i. Marks that a failed search leaves are kept: no later
-// search enters them, and at the end the marked objects are the answer set.
-use second::answers::Top;
-use second::net::Net;
+//! Shares moved along routes, in plain Rust: the library's own method, for the benchmark to time it against.
+//!
+//! End 2e is the first end of constraint e, end 2e + 1 its second. The ends at an object form a chain, in which i + 1
+//! stands for end i and 0 closes the chain. Marks that a failed search leaves are kept: no later search enters them,
+//! and when all is settled the marked objects are the answer set.
+use second::net::{Net, Top};
 
 const OBJECTS: usize = 128;
 const CONSTRAINTS: usize = 512;
@@ -12,8 +11,8 @@ const CONSTRAINTS: usize = 512;
 pub struct Chains {
     constraints: usize,
     objects: usize,
-    free: [u16; OBJECTS],
-    weight: [u16; CONSTRAINTS],
+    object_weights: [u16; OBJECTS],
+    constraint_weights: [u16; CONSTRAINTS],
     ends: [u16; 2 * CONSTRAINTS],
     head: [u16; OBJECTS],
     next: [u16; 2 * CONSTRAINTS],
@@ -39,18 +38,18 @@ impl Chains {
         let mut chains = Chains {
             constraints: net.constraints.len(),
             objects: net.objects.len(),
-            free: [0; OBJECTS],
-            weight: [0; CONSTRAINTS],
+            object_weights: [0; OBJECTS],
+            constraint_weights: [0; CONSTRAINTS],
             ends: [0; 2 * CONSTRAINTS],
             head: [0; OBJECTS],
             next: [0; 2 * CONSTRAINTS],
         };
         for (v, &weight) in net.objects.iter().enumerate() {
-            chains.free[v] = weight as u16;
+            chains.object_weights[v] = weight as u16;
         }
-        for (e, tie) in net.constraints.iter().enumerate() {
-            chains.weight[e] = tie.weight as u16;
-            for (side, &v) in tie.ends.iter().enumerate() {
+        for (e, constraint) in net.constraints.iter().enumerate() {
+            chains.constraint_weights[e] = constraint.weight as u16;
+            for (side, &v) in constraint.ends.iter().enumerate() {
                 let i = 2 * e + side;
                 chains.ends[i] = v as u16;
                 chains.next[i] = chains.head[v];
@@ -63,7 +62,7 @@ impl Chains {
     /// Nothing shared yet and every object open.
     pub fn nothing(&self) -> State {
         let marks = Marks { objects: [0; OBJECTS], constraints: [0; CONSTRAINTS] };
-        State { shares: [0; 2 * CONSTRAINTS], load: [0; OBJECTS], room: self.free, marks }
+        State { shares: [0; 2 * CONSTRAINTS], load: [0; OBJECTS], room: self.object_weights, marks }
     }
 
     /// One distribution of the whole drawing that serves every constraint.
@@ -95,14 +94,13 @@ impl Chains {
     }
 
     fn density(&self, state: &State) -> i64 {
-        let marked = |i: usize| state.marks.objects[self.ends[i] as usize] != 0;
-        let held: i64 = (0..self.constraints)
-            .filter(|e| marked(2 * e) && marked(2 * e + 1))
-            .map(|e| i64::from(self.weight[e]))
-            .sum();
-        let free: i64 =
-            (0..self.objects).filter(|&v| state.marks.objects[v] != 0).map(|v| i64::from(self.free[v])).sum();
-        held - free
+        let marked = |v: usize| state.marks.objects[v] != 0;
+        let end = |i: usize| marked(self.ends[i] as usize);
+        let held = (0..self.constraints).filter(|e| end(2 * e) && end(2 * e + 1));
+        let constraints: i64 = held.map(|e| i64::from(self.constraint_weights[e])).sum();
+        let inside = (0..self.objects).filter(|&v| marked(v));
+        let objects: i64 = inside.map(|v| i64::from(self.object_weights[v])).sum();
+        constraints - objects
     }
 
     /// Shares at c's two ends go back to their constraints, and the ends are full from now on.
@@ -132,7 +130,7 @@ impl Chains {
     }
 
     fn left(&self, state: &State, e: usize) -> bool {
-        state.shares[2 * e] + state.shares[2 * e + 1] < self.weight[e]
+        state.shares[2 * e] + state.shares[2 * e + 1] < self.constraint_weights[e]
     }
 
     fn route_from_constraint(&self, state: &mut State, marks: &mut Marks, e: usize) -> bool {

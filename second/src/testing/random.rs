@@ -1,4 +1,4 @@
-// A small random generator (splitmix64). The same seed gives the same numbers everywhere.
+//! A small random generator (splitmix64). The same seed gives the same numbers everywhere.
 
 pub struct Random(u64);
 

@@ -1,8 +1,8 @@
-// The C library: its declarations, and calls of it with guard bytes round every buffer.
-//
-// A buffer is filled with a pattern and lies between guard bytes; a call gives its code and all of these bytes
-// afterwards, and `after` says what they must be. A drawing or sheet is lent as a copy between guard bytes, which must
-// come back as it was; behind it end records stand, so that reading on past its length shows in the answer.
+//! The C library: its declarations, and calls of it with guard bytes round every buffer.
+//!
+//! A buffer is filled with a pattern and lies between guard bytes; a call gives its code and all of these bytes
+//! afterwards, and `after` says what they must be. A drawing or sheet is lent as a copy between guard bytes, which must
+//! come back as it was; behind it end records stand, so that reading on past its length shows in the answer.
 pub const GUARD: usize = 24;
 
 /// The declarations, for calls with pointers of the caller's own.
@@ -51,6 +51,14 @@ impl Outcome {
     /// The buffer without its guard bytes.
     pub fn buffer(&self) -> &[u8] {
         &self.bytes[GUARD..self.bytes.len() - GUARD]
+    }
+
+    /// The answer block in the buffer: constraint number, density and set.
+    pub fn block(&self) -> (usize, i32, u128) {
+        let block = self.buffer();
+        let [c, density] = [0, 2].map(|at| [block[at], block[at + 1]]);
+        let set = block[4..20].try_into().expect("16 bytes");
+        (u16::from_le_bytes(c).into(), i16::from_le_bytes(density).into(), u128::from_le_bytes(set))
     }
 }
 

@@ -1,5 +1,5 @@
-// Drawings with known results: A to L of the paper, and figures from the documents that it rests on.
-use crate::frames::*;
+//! Drawings with known results: A to L of document 01, and figures from the documents that it rests on.
+use super::drawings::*;
 use crate::reader::Drawing;
 
 /// Results: constraint, top density, members; and at a K the dense constraint, or none.

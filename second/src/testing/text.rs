@@ -1,6 +1,9 @@
-// Drawings as text, one line for each object and constraint; `#` starts a comment:
-//   KIND NAME [WEIGHT]           an object; constraints call it by its name
-//   KIND NAME NAME [WEIGHT]      a constraint between two objects
+//! Drawings as text, one line for each object and constraint; `#` starts a comment:
+//!
+//! ```text
+//! KIND NAME [WEIGHT]           an object; constraints call it by its name
+//! KIND NAME NAME [WEIGHT]      a constraint between two objects
+//! ```
 use crate::reader::{Constraint, Drawing, Object};
 
 const OBJECTS: [&str; 5] = ["point", "line", "given-circle", "free-circle", "cluster"];

@@ -1,4 +1,4 @@
-// A drawing as bytes: each record is its body's length, its kind, its body.
+//! A drawing as bytes: each record is its body's length, its kind, its body.
 use crate::reader::{Constraint, Drawing, Object};
 
 pub fn bytes(drawing: &Drawing) -> Vec<u8> {

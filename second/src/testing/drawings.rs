@@ -1,5 +1,5 @@
-// Drawings of known build and drawings at random, all within the limits.
-use crate::random::Random;
+//! Drawings of known build and drawings at random, all within the limits.
+use super::random::Random;
 use crate::reader::{Constraint, Drawing, Object, MOST_CONSTRAINTS, MOST_OBJECTS};
 use crate::table::constraint_weight;
 
@@ -72,8 +72,8 @@ pub fn loose_tail(figure: usize, tail: usize, first: bool) -> Drawing {
     for step in 0..tail {
         path.push((if step == 0 { 0 } else { figure + step - 1 }, figure + step));
     }
-    let tight = every_pair(0, figure);
-    let pairs = if first { [path, tight].concat() } else { [tight, path].concat() };
+    let complete = every_pair(0, figure);
+    let pairs = if first { [path, complete].concat() } else { [complete, path].concat() };
     distances(figure + tail, &pairs)
 }
 
