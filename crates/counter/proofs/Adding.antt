@@ -14,7 +14,8 @@ use Rattle.density.specs.Sum.{sum, counted}
 use Rattle.density.specs.Net.{Net, first, second}
 use Rattle.density.specs.Sheet.{Sheet, shares, gets}
 use Rattle.density.proofs.Sums.{sum-le, counted-le}
-use Rattle.routes.specs.Limits.{at, objectLimit}
+use Rattle.limits.specs.Limits.{mostObjects}
+use Rattle.routes.specs.At.{at}
 use Rattle.drawing.specs.Format.{twoAt}
 use Rattle.counter.specs.Sheet.{sheetIn}
 use Rattle.counter.specs.Checked.{Adding, AddedUp, Tallied, constraintsOf}
@@ -45,10 +46,10 @@ received-more load v share u l = go (ℕ-discrete u v)
 -- the constraints below e are added up
 pub record Tallying (m : ℕ) (ends takes sheet : List ℕ) (e total given : ℕ) (load : List ℕ) : Type 0 where
   pub added : AddedUp (constraintsOf m ends takes) (sheetIn sheet) e total given load
-  pub long : length load ≡ objectLimit
+  pub long : length load ≡ mostObjects
   pub low : e ≤ m
 
-pub none-added : (m : ℕ) (ends takes sheet : List ℕ) → Tallying m ends takes sheet 0 0 0 (replicate objectLimit 0)
+pub none-added : (m : ℕ) (ends takes sheet : List ℕ) → Tallying m ends takes sheet 0 0 0 (replicate mostObjects 0)
 unfolding sum
 none-added m ends takes sheet =
     record {
@@ -57,9 +58,9 @@ none-added m ends takes sheet =
             fits = λ i l. absurd (omega arith);
             total-is = refl;
             given-is = refl;
-            load-is = λ v l. getD-replicate objectLimit v 0 0 l;
+            load-is = λ v l. getD-replicate mostObjects v 0 0 l;
           };
-      long = length-replicate {A = ℕ} objectLimit 0;
+      long = length-replicate {A = ℕ} mostObjects 0;
       low = omega arith;
     }
 
@@ -82,7 +83,7 @@ module _ {d : Net} {s : Sheet} {e total given : ℕ} {load : List ℕ} (added : 
   pub given-small : given ≤ 15 * e
   given-small = omega (arith, total-small, added .total-is, added .given-is, sum-le e (shares s) (d .takes) (added .fits))
 
-  pub load-small : (v : ℕ) → v < objectLimit → at load v ≤ 15 * e
+  pub load-small : (v : ℕ) → v < mostObjects → at load v ≤ 15 * e
   load-small v l = omega (arith, given-small, added .given-is, added .load-is v l, sum-le e (gets d s v) (shares s) (λ i _. gets-le i))
     where
       gets-le : (i : ℕ) → gets d s v i ≤ shares s i
@@ -98,10 +99,10 @@ module _ {m : ℕ} {ends takes sheet : List ℕ} (pre : Adding m ends takes shee
   pub sums-low : (total ≤ 7680) × (given ≤ 7680)
   sums-low = (omega (arith, pre .few, total-small (t .added) light), omega (arith, pre .few, given-small (t .added) light))
 
-  load-low : (v : ℕ) → v < objectLimit → at load v ≤ 7680
+  load-low : (v : ℕ) → v < mostObjects → at load v ≤ 7680
   load-low v h = omega (arith, pre .few, load-small (t .added) light v h)
 
-  end-low : (i v : ℕ) → i < 2 * m → v ≡ at ends i → v < objectLimit
+  end-low : (i v : ℕ) → i < 2 * m → v ≡ at ends i → v < mostObjects
   end-low i v h is = omega (arith, pre .named i h)
 
   module _ {x y weight : ℕ} (x-is : x ≡ twoAt sheet (4 * e)) (y-is : y ≡ twoAt sheet (4 * e + 2)) (weight-is : weight ≡ at takes e) {first second : ℕ}
@@ -112,23 +113,23 @@ module _ {m : ℕ} {ends takes sheet : List ℕ} (pre : Adding m ends takes shee
 
     -- the two shares fit, and the two ends a and b receive them
     module _ (fits : first + second ≤ weight) {a : ℕ} (a-is : a ≡ at ends (2 * e)) where
-      a-low : a < objectLimit
+      a-low : a < mostObjects
       a-low = end-low (2 * e) a (omega arith) a-is
 
-      pub first-fits : (a < objectLimit) × (at load a + x < 65536)
+      pub first-fits : (a < mostObjects) × (at load a + x < 65536)
       first-fits = (a-low, omega (arith, load-low a a-low, pre .light e l))
 
       module _ {next : List ℕ} (next-is : next ≡ set load a (at load a + x)) {b : ℕ} (b-is : b ≡ at ends (2 * e + 1)) where
         next-at : (v : ℕ) → at next v ≡ at load v + counted (eqb a v) x
         next-at v = ap (λ (k : List ℕ). at k v) next-is ∙ received-more load a x v (omega (arith, a-low, t .long))
 
-        b-low : b < objectLimit
+        b-low : b < mostObjects
         b-low = end-low (2 * e + 1) b (omega arith) b-is
 
-        pub second-fits : (b < objectLimit) × (at next b + y < 65536)
+        pub second-fits : (b < mostObjects) × (at next b + y < 65536)
         second-fits = (b-low, omega (arith, next-at b, counted-le (eqb a b) x, load-low b b-low, pre .light e l))
 
-        next-long : length next ≡ objectLimit
+        next-long : length next ≡ mostObjects
         next-long = ap length next-is ∙ simp length-set (t .long)
 
         module _ {last : List ℕ} (last-is : last ≡ set next b (at next b + y)) where

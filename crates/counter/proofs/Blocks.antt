@@ -12,7 +12,7 @@ use Rattle.density.specs.Sum.{counted}
 use Rattle.density.specs.Net.{Set}
 use Rattle.density.proofs.Sums.{sum-same}
 use Rattle.density.proofs.Alike.{Alike}
-use Rattle.drawing.specs.Fault.{mostObjects}
+use Rattle.limits.specs.Limits.{mostObjects}
 use Rattle.drawing.proofs.Listed.{listed-same, below-or-past}
 use Rattle.counter.specs.Block.{setByte, setBytes, setSize, block, two, complement}
 

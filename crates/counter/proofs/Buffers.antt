@@ -7,7 +7,7 @@ use lib.Dec.{eqb}
 use lib.IntN.{ℤ}
 use lib.ListN.{length, List·getD-append, drop, length-append}
 use Rattle.density.specs.Net.{Side, first, second, Set}
-use Rattle.density.specs.Top.{Answer}
+use Rattle.density.specs.Top.{AnswerSet}
 use Rattle.density.proofs.Alike.{Alike}
 use Rattle.density.proofs.One.{answer-top, answer-alike}
 use Rattle.drawing.specs.Entry.{Drawing}
@@ -19,8 +19,8 @@ use Rattle.counter.specs.Outcome.{Outcome, over}
 use Rattle.counter.specs.Question.{BlockOf}
 use Rattle.counter.proofs.Decode.{set-reads, number-reads, density-reads}
 use Rattle.counter.proofs.Sizes.{top-short}
-use Rattle.drawing.specs.Arrays.{listed}
-use Rattle.drawing.proofs.Listed.{length-listed}
+use Rattle.drawing.specs.Arrays.{tabulated}
+use Rattle.drawing.proofs.Listed.{length-tabulated}
 
 -- the number in two bytes of the front
 two-front : (bytes behind : List ℕ) (k : ℕ) → k + 1 < length bytes → twoAt (bytes ++ behind) k ≡ twoAt bytes k
@@ -35,16 +35,16 @@ sheet-front m bytes behind long second e l = sym (two-front bytes behind (4 * e 
 pub block-long : (n c : ℕ) (t : ℤ) (S : Set) → length (block n c t S) ≡ blockSize
 unfolding block setBytes
 block-long n c t S =
-    length-append (two c ++ two (complement t)) (listed setSize (setByte n S)) ∙ ap (λ (k : ℕ). 4 + k) (length-listed setSize (setByte n S))
+    length-append (two c ++ two (complement t)) (tabulated setSize (setByte n S)) ∙ ap (λ (k : ℕ). 4 + k) (length-tabulated setSize (setByte n S))
 
 -- a block at the front of a buffer says the number of the constraint, its top density and its answer set
 pub block-says : (d : Drawing) → Within d → (c : ℕ) → c < length (d .constraints) → (o : Outcome) → BlockOf d c o → (before after : List ℕ)
-    → after ≡ over (o .bytes) before → (numberIn after ≡ c) × Answer (weighed d) c (densityIn after) (setIn after)
+    → after ≡ over (o .bytes) before → (numberIn after ≡ c) × AnswerSet (weighed d) c (densityIn after) (setIn after)
 unfolding weighed
 block-says d within c l o b before after w =
-    subst (λ (a : List ℕ). (numberIn a ≡ c) × Answer (weighed d) c (densityIn a) (setIn a)) (sym here) (
+    subst (λ (a : List ℕ). (numberIn a ≡ c) × AnswerSet (weighed d) c (densityIn a) (setIn a)) (sym here) (
       two-front bytes behind 0 (omega (arith, long)) ∙ number-reads n c (b .top) (b .set) (omega (arith, within .few-constraints)),
-      subst (λ (z : ℤ). Answer (weighed d) c z (setIn (bytes ++ behind))) (sym density)
+      subst (λ (z : ℤ). AnswerSet (weighed d) c z (setIn (bytes ++ behind))) (sym density)
           (answer-alike (weighed d) (within .proper) c l (b .top) (b .set) (setIn (bytes ++ behind)) members (b .answer)),
     )
   where

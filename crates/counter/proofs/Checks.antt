@@ -11,8 +11,9 @@ use lib.IntN.{ℤ, subℕ}
 use Rattle.density.specs.Net.{Net, Side, first, second}
 use Rattle.density.specs.Sheet.{received, Sound, total, given, claim, ends-weigh}
 use Rattle.density.proofs.Shares.{claim-is}
-use Rattle.routes.specs.Limits.{at, objectLimit}
-use Rattle.routes.specs.Arrays.{net}
+use Rattle.limits.specs.Limits.{mostObjects}
+use Rattle.routes.specs.At.{at}
+use Rattle.routes.specs.Arrays.{netIn}
 use Rattle.counter.specs.Sheet.{sheetIn}
 use Rattle.counter.specs.Checked.{Adding, AddedUp, Tallied, HasRoom, Ending, Bare, Equals, Checking, Checked, constraintsOf}
 use Rattle.counter.proofs.Asking.{clash}
@@ -75,7 +76,7 @@ module _ {n m c : ℕ} {ends weights takes sheet : List ℕ} (pre : Checking n m
       }
 
   abbrev d : Net
-  d = net n m ends weights takes
+  d = netIn n m ends weights takes
 
   refuted : {claimed : ℤ} → (Sound d c (sheetIn sheet) → ⊥) → Checked n m c ends weights takes sheet claimed false
   refuted un = record { sound = clash; claims = clash; else = λ _ s _. un s }
@@ -92,7 +93,7 @@ module _ {n m c : ℕ} {ends weights takes sheet : List ℕ} (pre : Checking n m
       omega (arith, pre .fair .few-constraints, given-small added (pre .fair .light-constraints)),
     )
 
-    received-is : (v : ℕ) → v < objectLimit → received d (sheetIn sheet) v ≡ at load v
+    received-is : (v : ℕ) → v < mostObjects → received d (sheetIn sheet) v ≡ at load v
     unfolding received
     received-is v l = sym (added .load-is v l)
 

@@ -9,8 +9,8 @@ use lib.Signed.{_≤ℤ_, _<ℤ_, clashℤ}
 use Rattle.density.specs.Net.{Net}
 use Rattle.density.specs.Top.{Top}
 use Rattle.density.proofs.One.{answer-top, tops-agree}
-use Rattle.routes.specs.Arrays.{net, members}
-use Rattle.routes.specs.Answered.{Answered}
+use Rattle.routes.specs.Arrays.{netIn, members}
+use Rattle.routes.specs.Solved.{Solved}
 use Rattle.counter.specs.Asked.{raise}
 use Rattle.counter.specs.Counting.{Found}
 
@@ -19,9 +19,9 @@ abbrev pub NoneBelow : Net → ℤ → ℕ → Type 0
 NoneBelow d k c = (e : ℕ) (t : ℤ) → e < c → Top d e t → t ≤ℤ k
 
 module _ (n m k : ℕ) (ends weights takes : List ℕ) (c above below : ℕ) (marks shares : List ℕ)
-    (none : NoneBelow (net n m ends weights takes) (subℕ k raise) c) (a : Answered n m c ends weights takes marks shares above below) where
+    (none : NoneBelow (netIn n m ends weights takes) (subℕ k raise) c) (a : Solved n m c ends weights takes marks shares above below) where
   abbrev d : Net
-  d = net n m ends weights takes
+  d = netIn n m ends weights takes
 
   top : Top d c (subℕ above below)
   top = answer-top d c (subℕ above below) (members marks) (a .answer)

@@ -16,9 +16,9 @@ use Rattle.density.proofs.Integers.{cross-of-eq, sub-up, sub-down}
 use Rattle.density.proofs.Alike.{Alike}
 use Rattle.density.proofs.Subsets.{none, every, every-set}
 use Rattle.density.proofs.Table.{below, below-gives, below-same}
-use Rattle.drawing.specs.Fault.{mostObjects}
+use Rattle.limits.specs.Limits.{mostObjects}
 use Rattle.drawing.specs.Format.{twoAt}
-use Rattle.drawing.proofs.Listed.{getD-listed}
+use Rattle.drawing.proofs.Listed.{getD-tabulated}
 use Rattle.counter.specs.Block.{two, complement, setByte, setBytes, setSize, block, signed, numberIn, densityIn, setIn}
 
 -- ---- bits: a byte made of eight tests has each test at its bit
@@ -67,7 +67,7 @@ set-reads n c t S v few l =
     byte : getD (block n c t S) (4 + v / 8) 0 ≡ setByte n S (v / 8)
     byte =
         getD-append-add (two c ++ two (complement t)) (setBytes n S) (v / 8) 0
-        ∙ getD-listed setSize (setByte n S) 0 (v / 8) (omega arith)
+        ∙ getD-tabulated setSize (setByte n S) 0 (v / 8) (omega arith)
 
     div-mod : (v : ℕ) → 8 * (v / 8) + v % 8 ≡ v
     div-mod v = omega arith

@@ -12,7 +12,7 @@ use lib.IntN.{ℤ}
 use lib.ListN.{length, drop, length-append}
 use lib.Signed.{clashℤ}
 use Rattle.density.specs.Net.{Side}
-use Rattle.density.specs.Top.{Bound, Top, Answer, NoSetAbove, LowestAbove}
+use Rattle.density.specs.Top.{Bound, Top, AnswerSet, NoSetAbove, LowestAbove}
 use Rattle.density.specs.Sheet.{claim}
 use Rattle.density.proofs.Shares.{sheet-bounds, sound-same, claim-same}
 use Rattle.density.proofs.One.{tops-agree, none-no-set}
@@ -85,19 +85,19 @@ module _ (s : List ℕ) (d : Drawing) (is : read s ≡ accepted d) where
 
   -- one constraint: the block says c, its top density and its answer set
   pub one-constraint-says : (c : ℕ) {before after : List ℕ} → Answers (oneConstraint c (length before)) s 0 before after
-      → (numberIn after ≡ c) × Answer (weighed d) c (densityIn after) (setIn after)
+      → (numberIn after ≡ c) × AnswerSet (weighed d) c (densityIn after) (setIn after)
   one-constraint-says c {before} {after} a =
       let x = unrefused (oneConstraint c (length before)) a d is (inl refl) (constraint-small d c (length before) blockSize) in
       block-says d within c (in-drawing d c (roomFault (length before) blockSize) (x .0)) (a .outcome) (x .1) before after (a .after-is)
 
   -- any dense: where it is answered, the block is that of the lowest-numbered constraint whose top density is above K
   pub any-dense-says : (k : ℤ) {before after : List ℕ} → Answers (anyDense k (length before)) s 0 before after
-      → LowestAbove (weighed d) k (numberIn after) × Answer (weighed d) (numberIn after) (densityIn after) (setIn after)
+      → LowestAbove (weighed d) k (numberIn after) × AnswerSet (weighed d) (numberIn after) (densityIn after) (setIn after)
   unfolding weighed
   any-dense-says k {before} {after} a = go (unrefused (anyDense k (length before)) a d is (inl refl) (range-small k (length before) blockSize) .1)
     where
       Says : ℕ → Type 0
-      Says c = LowestAbove (weighed d) k c × Answer (weighed d) c (densityIn after) (setIn after)
+      Says c = LowestAbove (weighed d) k c × AnswerSet (weighed d) c (densityIn after) (setIn after)
 
       go : LowestBlock d k (a .outcome) ⊎ NoBlock d k (a .outcome) → Says (numberIn after)
       go (inl b) =

@@ -9,21 +9,21 @@ use lib.Dec.{ltb}
 use lib.IntN.{ℤ, subℕ}
 use lib.ListN.{length}
 use Rattle.density.specs.Net.{Net, Side}
-use Rattle.density.specs.Top.{Answer, Top, LowestAbove, NoneAt}
+use Rattle.density.specs.Top.{AnswerSet, Top, LowestAbove, NoneAt}
 use Rattle.density.specs.Sheet.{Sound, claim}
 use Rattle.density.proofs.Shares.{sound-same, claim-same}
 use Rattle.density.proofs.One.{answer-top}
 use Rattle.drawing.specs.Choice.{pick}
 use Rattle.drawing.specs.Entry.{Drawing}
 use Rattle.drawing.specs.Read.{Reading, read}
-use Rattle.drawing.specs.Fault.{mostObjects}
-use Rattle.drawing.specs.Arrays.{Arrays, drawingIn, Held}
-use Rattle.drawing.specs.Weighed.{Weighed}
-use Rattle.drawing.proofs.Held.{held-refused, held-accepted}
+use Rattle.limits.specs.Limits.{mostObjects}
+use Rattle.drawing.specs.Arrays.{Arrays, drawingIn, ReadInto}
+use Rattle.drawing.specs.WeightArrays.{WeightsIn}
+use Rattle.drawing.proofs.ReadInto.{read-refused, read-accepted}
 use Rattle.drawing.proofs.Listed.{objects-count, constraints-count}
-use Rattle.routes.specs.Limits.{at}
-use Rattle.routes.specs.Arrays.{net, place, sheet, members}
-use Rattle.routes.specs.Answered.{Answered}
+use Rattle.routes.specs.At.{at}
+use Rattle.routes.specs.Arrays.{netIn, place, sharesIn, members}
+use Rattle.routes.specs.Solved.{Solved}
 use Rattle.counter.specs.Weighed.{weighed}
 use Rattle.counter.specs.Block.{two, block, blockSize}
 use Rattle.counter.specs.Sheet.{sheetSize, sheetIn}
@@ -53,7 +53,7 @@ pub range-there : (k : ℤ) (rest : ℕ) → inRange k ≡ true → rangeFault k
 unfolding pick
 range-there k rest e = ap (λ b. pick (not b) 10 rest) e
 
-module _ {s : List ℕ} {code n m : ℕ} {a : Arrays} (held : Held s code n m a) (before : List ℕ) where
+module _ {s : List ℕ} {code n m : ℕ} {a : Arrays} (held : ReadInto s code n m a) (before : List ℕ) where
   abbrev d : Drawing
   d = drawingIn a n m
 
@@ -77,11 +77,11 @@ module _ {s : List ℕ} {code n m : ℕ} {a : Arrays} (held : Held s code n m a)
   -- a drawing that is refused
   pub refuses : (q : Question) → (code ≡ 0 → ⊥) → Answers q s code before before
   refuses q h =
-      record { outcome = says code; fits = subst (λ (r : Reading). Judged q r (says code)) (sym (held-refused s code n m a held h)) refl; result-is = refl; after-is = refl }
+      record { outcome = says code; fits = subst (λ (r : Reading). Judged q r (says code)) (sym (read-refused s code n m a held h)) refl; result-is = refl; after-is = refl }
 
   module _ (z : code ≡ 0) where
     fits-so : (q : Question) (o : Outcome) → Unless (q .fault d) o (q .answer d o) → Judged q (read s) o
-    fits-so q o u = subst (λ (r : Reading). Judged q r o) (sym (held-accepted s code n m a held z)) u
+    fits-so q o u = subst (λ (r : Reading). Judged q r o) (sym (read-accepted s code n m a held z)) u
 
     -- a fault of what is asked
     pub asked-wrong : (q : Question) (k : ℕ) → q .fault d ≡ suc k → Answers q s (suc k) before before
@@ -110,13 +110,13 @@ module _ {s : List ℕ} {code n m : ℕ} {a : Arrays} (held : Held s code n m a)
         (w ∙ ap₂ (λ (x y : ℕ). over (two x ++ two y) before) (sym (objects-count a n m)) (sym (constraints-count a n m)))
 
     -- ---- blocks
-    module _ {os cs : List ℕ} (w : Weighed a n m os cs) {c above below : ℕ} {marks shares : List ℕ} (x : Answered n m c (a .ends) os cs marks shares above below) where
+    module _ {os cs : List ℕ} (w : WeightsIn a n m os cs) {c above below : ℕ} {marks shares : List ℕ} (x : Solved n m c (a .ends) os cs marks shares above below) where
       pub block-of : BlockOf d c (answered (block mostObjects c (subℕ above below) (members marks)))
       block-of =
           record {
             top = subℕ above below;
             set = members marks;
-            answer = subst (λ (g : Net). Answer g c (subℕ above below) (members marks)) (sym (weighed-is a n m os cs (held .tidy) w)) (x .answer);
+            answer = subst (λ (g : Net). AnswerSet g c (subℕ above below) (members marks)) (sym (weighed-is a n m os cs (held .tidy) w)) (x .answer);
             is = ap answered (block-within n c (subℕ above below) (members marks) (held .tidy .few-objects) past ∙ ap (λ (k : ℕ). block k c (subℕ above below) (members marks)) (sym (objects-count a n m)));
           }
         where
@@ -130,8 +130,8 @@ module _ {s : List ℕ} {code n m : ℕ} {a : Arrays} (held : Held s code n m a)
           (constraint-there c (roomFault (length before) blockSize) l ∙ room-there (length before) blockSize h) block-of e
 
     -- ---- any dense, where r stands for K
-    module _ {os cs : List ℕ} (w : Weighed a n m os cs) (k : ℤ) (r : ℕ) (is : k ≡ subℕ r raise) where
-      lowest-so : (c : ℕ) → LowestAbove (net n m (a .ends) os cs) (subℕ r raise) c → LowestAbove (weighed d) k c
+    module _ {os cs : List ℕ} (w : WeightsIn a n m os cs) (k : ℤ) (r : ℕ) (is : k ≡ subℕ r raise) where
+      lowest-so : (c : ℕ) → LowestAbove (netIn n m (a .ends) os cs) (subℕ r raise) c → LowestAbove (weighed d) k c
       lowest-so c l = subst₂ (λ (g : Net) (t : ℤ). LowestAbove g t c) (sym (weighed-is a n m os cs (held .tidy) w)) (sym is) l
 
       pub any-found : {c above below : ℕ} {marks : List ℕ} (after : List ℕ) → inRange k ≡ true → blockSize ≤ length before → Found n m r (a .ends) os cs c above below marks
@@ -142,7 +142,7 @@ module _ {s : List ℕ} {code n m : ℕ} {a : Arrays} (held : Held s code n m a)
           (inl (record { constraint = c; lowest = lowest-so c (f .lowest); block-of = block-of w (f .answered) }))
           e
 
-      pub any-none : inRange k ≡ true → blockSize ≤ length before → NoneAt (net n m (a .ends) os cs) (subℕ r raise) → Answers (anyDense k (length before)) s 32 before before
+      pub any-none : inRange k ≡ true → blockSize ≤ length before → NoneAt (netIn n m (a .ends) os cs) (subℕ r raise) → Answers (anyDense k (length before)) s 32 before before
       any-none inside h none =
           answers (anyDense k (length before)) (says 32) before
           (range-there k (roomFault (length before) blockSize) inside ∙ room-there (length before) blockSize h)
@@ -150,7 +150,7 @@ module _ {s : List ℕ} {code n m : ℕ} {a : Arrays} (held : Held s code n m a)
           refl
 
     -- ---- the sheet
-    module _ {os cs : List ℕ} (w : Weighed a n m os cs) {c above below : ℕ} {marks shares : List ℕ} (x : Answered n m c (a .ends) os cs marks shares above below) where
+    module _ {os cs : List ℕ} (w : WeightsIn a n m os cs) {c above below : ℕ} {marks shares : List ℕ} (x : Solved n m c (a .ends) os cs marks shares above below) where
       pub sheet-answered : (bytes after : List ℕ) → c < m → 4 * m ≤ length before → length bytes ≡ sheetSize m
           → ((i : Side) (e : ℕ) → e < m → sheetIn bytes i e ≡ at shares (place i e)) → after ≡ over bytes before → Answers (sheetFor c (length before)) s 0 before after
       sheet-answered bytes after l h long same e =
@@ -160,35 +160,35 @@ module _ {s : List ℕ} {code n m : ℕ} {a : Arrays} (held : Held s code n m a)
           (record {
             bytes = bytes;
             long = long ∙ ap sheetSize (sym (constraints-count a n m));
-            sound = subst (λ (g : Net). Sound g c (sheetIn bytes)) (sym arrays) (sound-same g₀ (sheet shares) (sheetIn bytes) given c (x .sound));
+            sound = subst (λ (g : Net). Sound g c (sheetIn bytes)) (sym arrays) (sound-same g₀ (sharesIn shares) (sheetIn bytes) given c (x .sound));
             top = subst (λ (g : Net). Top g c (claim g c (sheetIn bytes))) (sym arrays) (subst (λ (t : ℤ). Top g₀ c t) shown (answer-top g₀ c (subℕ above below) (members marks) (x .answer)));
             is = refl;
           })
           e
         where
           g₀ : Net
-          g₀ = net n m (a .ends) os cs
+          g₀ = netIn n m (a .ends) os cs
 
           arrays : weighed d ≡ g₀
           arrays = weighed-is a n m os cs (held .tidy) w
 
-          given : (i : Side) (e : ℕ) → e < m → sheet shares i e ≡ sheetIn bytes i e
+          given : (i : Side) (e : ℕ) → e < m → sharesIn shares i e ≡ sheetIn bytes i e
           given i e l = sym (same i e l)
 
           shown : subℕ above below ≡ claim g₀ c (sheetIn bytes)
-          shown = sym (x .claims) ∙ claim-same g₀ (sheet shares) (sheetIn bytes) given c
+          shown = sym (x .claims) ∙ claim-same g₀ (sharesIn shares) (sheetIn bytes) given c
 
     -- ---- the check
-    module _ {os cs : List ℕ} (w : Weighed a n m os cs) (c : ℕ) (l : c < m) (b : List ℕ) (claimed : ℤ) (h : 4 * m ≤ length b) where
+    module _ {os cs : List ℕ} (w : WeightsIn a n m os cs) (c : ℕ) (l : c < m) (b : List ℕ) (claimed : ℤ) (h : 4 * m ≤ length b) where
       no-fault : check c b claimed .fault d ≡ 0
       no-fault =
           constraint-there c (roomFault (length b) (sheetSize (length (d .constraints)))) l
           ∙ sheet-there (length b) h
 
-      arrays-are : weighed d ≡ net n m (a .ends) os cs
+      arrays-are : weighed d ≡ netIn n m (a .ends) os cs
       arrays-are = weighed-is a n m os cs (held .tidy) w
 
-      pub check-shows : Sound (net n m (a .ends) os cs) c (sheetIn b) → claim (net n m (a .ends) os cs) c (sheetIn b) ≡ claimed
+      pub check-shows : Sound (netIn n m (a .ends) os cs) c (sheetIn b) → claim (netIn n m (a .ends) os cs) c (sheetIn b) ≡ claimed
           → Answers (check c b claimed) s 0 before before
       check-shows sound claims =
           answers (check c b claimed) (says 0) before no-fault
@@ -201,7 +201,7 @@ module _ {s : List ℕ} {code n m : ℕ} {a : Arrays} (held : Held s code n m a)
           ))
           refl
 
-      pub check-shows-not : (Sound (net n m (a .ends) os cs) c (sheetIn b) → claim (net n m (a .ends) os cs) c (sheetIn b) ≡ claimed → ⊥)
+      pub check-shows-not : (Sound (netIn n m (a .ends) os cs) c (sheetIn b) → claim (netIn n m (a .ends) os cs) c (sheetIn b) ≡ claimed → ⊥)
           → Answers (check c b claimed) s 33 before before
       check-shows-not no-sheet =
           answers (check c b claimed) (says 33) before no-fault

@@ -15,9 +15,9 @@ use lib.Seq.{append-snoc, drop-cons, set-at, take-length, drop-length}
 use Rattle.density.specs.Sum.{sum, counted}
 use Rattle.density.specs.Net.{Set}
 use Rattle.density.proofs.Integers.{Cut, up, down, cut}
-use Rattle.drawing.specs.Fault.{mostObjects}
-use Rattle.drawing.specs.Arrays.{listed}
-use Rattle.drawing.proofs.Listed.{length-listed, listed-more}
+use Rattle.limits.specs.Limits.{mostObjects}
+use Rattle.drawing.specs.Arrays.{tabulated}
+use Rattle.drawing.proofs.Listed.{length-tabulated, listed-more}
 use Rattle.counter.specs.Block.{setSize, two, complement, setByte}
 use Rattle.counter.specs.Outcome.{over}
 
@@ -54,14 +54,14 @@ byte-is S j h =
 
 -- one value more, written behind those that stand
 pub listed-over : (f : ℕ → ℕ) (k : ℕ) (before : List ℕ) → k < length before
-    → set (over (listed k f) before) k (f k) ≡ over (listed (k + 1) f) before
+    → set (over (tabulated k f) before) k (f k) ≡ over (tabulated (k + 1) f) before
 listed-over f k before h =
-    ap (λ (l : List ℕ). set (listed k f ++ l) k (f k)) (ap (λ (i : ℕ). drop i before) (length-listed k f) ∙ drop-cons before k 0 h)
-    ∙ set-at (listed k f) (getD before k 0) (drop (suc k) before) (f k) k (length-listed k f)
-    ∙ sym (append-snoc (listed k f) (f k) (drop (suc k) before))
-    ∙ ap₂ (λ (l : List ℕ) (i : ℕ). l ++ drop i before) (sym more) (sym (length-listed (k + 1) f ∙ add-one k))
+    ap (λ (l : List ℕ). set (tabulated k f ++ l) k (f k)) (ap (λ (i : ℕ). drop i before) (length-tabulated k f) ∙ drop-cons before k 0 h)
+    ∙ set-at (tabulated k f) (getD before k 0) (drop (suc k) before) (f k) k (length-tabulated k f)
+    ∙ sym (append-snoc (tabulated k f) (f k) (drop (suc k) before))
+    ∙ ap₂ (λ (l : List ℕ) (i : ℕ). l ++ drop i before) (sym more) (sym (length-tabulated (k + 1) f ∙ add-one k))
   where
-    more : listed (k + 1) f ≡ listed k f ++ (f k ∷ [])
+    more : tabulated (k + 1) f ≡ tabulated k f ++ (f k ∷ [])
     more = listed-more k f f (f k) (λ i l. refl) refl
 
 -- ---- a block: the two numbers, then the set in the part behind four bytes

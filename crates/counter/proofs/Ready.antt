@@ -14,14 +14,14 @@ use Rattle.drawing.specs.Read.{accepted, read}
 use Rattle.drawing.specs.Sound.{SoundDrawing}
 use Rattle.drawing.specs.Table.{tableWeight, allowed}
 use Rattle.drawing.specs.Weight.{inForce, objectWeight, constraintWeight}
-use Rattle.drawing.specs.Arrays.{Arrays, constraintIn, drawingIn, Tidy, Held, ProperEnds}
-use Rattle.drawing.specs.Weighed.{Weighed}
+use Rattle.drawing.specs.Arrays.{Arrays, constraintIn, drawingIn, Tidy, ReadInto, ProperEnds}
+use Rattle.drawing.specs.WeightArrays.{WeightsIn}
 use Rattle.drawing.proofs.Accepted.{accepted-sound}
-use Rattle.drawing.proofs.Callers.{held-ends, held-object-weight, held-constraint-weight}
+use Rattle.drawing.proofs.Callers.{read-ends, read-object-weight, read-constraint-weight}
 use Rattle.drawing.proofs.Listed.{below-or-past, objects-count, constraints-count, constraint-is, getD-past}
 use Rattle.drawing.proofs.Ranges.{object-weight, constraint-weight}
-use Rattle.routes.specs.Limits.{at}
-use Rattle.routes.specs.Arrays.{net, place}
+use Rattle.routes.specs.At.{at}
+use Rattle.routes.specs.Arrays.{netIn, place}
 use Rattle.counter.specs.Counting.{Countable}
 use Rattle.counter.specs.Weighed.{endOf, weightOf, weighed, Within}
 
@@ -49,7 +49,7 @@ accepted-within s d e =
     named second c h = sound .constraints-sound c h .second-is
 
 -- the arrays of a drawing that was read and weighed hold its net
-module _ (a : Arrays) (n m : ℕ) (os cs : List ℕ) (tidy : Tidy n m a) (w : Weighed a n m os cs) where
+module _ (a : Arrays) (n m : ℕ) (os cs : List ℕ) (tidy : Tidy n m a) (w : WeightsIn a n m os cs) where
   abbrev d : Drawing
   d = drawingIn a n m
 
@@ -87,7 +87,7 @@ module _ (a : Arrays) (n m : ℕ) (os cs : List ℕ) (tidy : Tidy n m a) (w : We
           ap (λ c. inForce (c .stated) (tableWeight (c .kind) (kindOf d (c .first)) (kindOf d (c .second)))) (none-past e g)
           ∙ sym (w .constraint-weights .past .zeros e g)
 
-  pub weighed-is : weighed d ≡ net n m (a .ends) os cs
+  pub weighed-is : weighed d ≡ netIn n m (a .ends) os cs
   unfolding weighed
   weighed-is = λ i.
       record {
@@ -99,7 +99,7 @@ module _ (a : Arrays) (n m : ℕ) (os cs : List ℕ) (tidy : Tidy n m a) (w : We
       }
 
 -- and they can be counted
-module _ {s : List ℕ} {code n m : ℕ} {a : Arrays} (held : Held s code n m a) (z : code ≡ 0) {os cs : List ℕ} (w : Weighed a n m os cs) where
+module _ {s : List ℕ} {code n m : ℕ} {a : Arrays} (held : ReadInto s code n m a) (z : code ≡ 0) {os cs : List ℕ} (w : WeightsIn a n m os cs) where
   pub countable : Countable n m (a .ends) os cs
   countable =
       record {
@@ -109,14 +109,14 @@ module _ {s : List ℕ} {code n m : ℕ} {a : Arrays} (held : Held s code n m a)
               few-constraints = held .tidy .few-constraints;
               named = named;
               apart = proper .apart;
-              light-objects = λ v h. held-object-weight s code n m a held z os cs w v h .most;
-              light-constraints = λ e h. held-constraint-weight s code n m a held z os cs w e h .most;
+              light-objects = λ v h. read-object-weight s code n m a held z os cs w v h .most;
+              light-constraints = λ e h. read-constraint-weight s code n m a held z os cs w e h .most;
             };
-        heavy = λ e h. held-constraint-weight s code n m a held z os cs w e h .least;
+        heavy = λ e h. read-constraint-weight s code n m a held z os cs w e h .least;
       }
     where
       proper : ProperEnds n m (a .ends)
-      proper = held-ends s code n m a held z
+      proper = read-ends s code n m a held z
 
       -- a place is the first or the second of its constraint
       named : (i : ℕ) → i < 2 * m → at (a .ends) i < n

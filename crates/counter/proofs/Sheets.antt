@@ -7,7 +7,7 @@ use native.Mathlib.Omega.{arith}
 use lib.ListN.{length, take, drop, set, length-set, take-append-drop}
 use lib.Seq.{getD-set-same, getD-set-other, getD-take, drop-set-lt, drop-drop, length-take-le}
 use Rattle.density.specs.Net.{Side, first, second}
-use Rattle.routes.specs.Limits.{at}
+use Rattle.routes.specs.At.{at}
 use Rattle.routes.specs.Arrays.{place}
 use Rattle.drawing.specs.Format.{twoAt}
 use Rattle.counter.specs.Outcome.{over}

@@ -6,7 +6,7 @@ use lib.IntN.{ℤ}
 use lib.ListN.{length}
 use Rattle.density.specs.Sum.{sum, counted}
 use Rattle.density.specs.Net.{Set, holds}
-use Rattle.density.specs.Density.{held, free, density}
+use Rattle.density.specs.Density.{takenBy, free, density}
 use Rattle.density.specs.Top.{Top}
 use Rattle.density.proofs.Sums.{counted-le}
 use Rattle.drawing.specs.Entry.{Drawing}
@@ -21,9 +21,9 @@ sum-light zero f h = omega arith
 sum-light (suc k) f h = omega (arith, sum-light k f (λ i l. h i (omega arith)), h k (omega arith))
 
 module _ (d : Drawing) (within : Within d) where
-  pub held-small : (S : Set) → held (weighed d) S ≤ 7680
-  unfolding held weighed
-  held-small S =
+  pub taken-small : (S : Set) → takenBy (weighed d) S ≤ 7680
+  unfolding takenBy weighed
+  taken-small S =
       omega (
         arith,
         within .few-constraints,
@@ -45,9 +45,9 @@ module _ (d : Drawing) (within : Within d) where
   unfolding density
   top-short c t top =
       record {
-        more = held (weighed d) (top .set);
+        more = takenBy (weighed d) (top .set);
         less = free (weighed d) (top .set);
         is = sym (top .reached .density-is);
-        high = omega (arith, held-small (top .set));
+        high = omega (arith, taken-small (top .set));
         low = omega (arith, free-small (top .set));
       }

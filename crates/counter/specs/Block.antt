@@ -8,7 +8,7 @@ use lib.ListN.{getD}
 use lib.IntN.{ℤ, pos, negsuc}
 use Rattle.density.specs.Sum.{sum, counted}
 use Rattle.density.specs.Net.{Set}
-use Rattle.drawing.specs.Arrays.{listed}
+use Rattle.drawing.specs.Arrays.{tabulated}
 use Rattle.drawing.specs.Format.{twoAt}
 
 -- "All numbers are little-endian": a number in two bytes
@@ -32,7 +32,7 @@ unfoldable pub setByte : ℕ → Set → ℕ → ℕ
 setByte n S j = sum 8 (λ b. counted (ltb (8 * j + b) n && S (8 * j + b)) (2 ^ b))
 
 unfoldable pub setBytes : ℕ → Set → List ℕ
-setBytes n S = listed setSize (setByte n S)
+setBytes n S = tabulated setSize (setByte n S)
 
 unfoldable pub block : ℕ → ℕ → ℤ → Set → List ℕ
 block n c t S = two c ++ two (complement t) ++ setBytes n S

@@ -8,8 +8,9 @@ use lib.ListN.{length}
 use Rattle.density.specs.Sum.{sum}
 use Rattle.density.specs.Net.{Net}
 use Rattle.density.specs.Sheet.{Sheet, shares, gets, Sound, claim}
-use Rattle.routes.specs.Limits.{at, objectLimit, constraintLimit}
-use Rattle.routes.specs.Arrays.{net, Fair}
+use Rattle.limits.specs.Limits.{mostObjects, mostConstraints}
+use Rattle.routes.specs.At.{at}
+use Rattle.routes.specs.Arrays.{netIn, Fair}
 use Rattle.counter.specs.Sheet.{sheetSize, sheetIn}
 
 -- a fair net, one of its constraints, and the bytes of a sheet
@@ -20,20 +21,20 @@ pub record Checking (n m c : ℕ) (ends weights takes sheet : List ℕ) : Type 0
 
 -- 01, 'The questions': "exactly if the sheet is sound and its claim is that number"
 pub record Checked (n m c : ℕ) (ends weights takes sheet : List ℕ) (claimed : ℤ) (r : Bool) : Type 0 where
-  pub sound : r ≡ true → Sound (net n m ends weights takes) c (sheetIn sheet)
-  pub claims : r ≡ true → claim (net n m ends weights takes) c (sheetIn sheet) ≡ claimed
-  pub else : r ≡ false → Sound (net n m ends weights takes) c (sheetIn sheet)
-      → claim (net n m ends weights takes) c (sheetIn sheet) ≡ claimed → ⊥
+  pub sound : r ≡ true → Sound (netIn n m ends weights takes) c (sheetIn sheet)
+  pub claims : r ≡ true → claim (netIn n m ends weights takes) c (sheetIn sheet) ≡ claimed
+  pub else : r ≡ false → Sound (netIn n m ends weights takes) c (sheetIn sheet)
+      → claim (netIn n m ends weights takes) c (sheetIn sheet) ≡ claimed → ⊥
 
 -- ---- the parts
 
 -- the constraints alone
 abbrev pub constraintsOf : ℕ → List ℕ → List ℕ → Net
-constraintsOf m ends takes = net objectLimit m ends [] takes
+constraintsOf m ends takes = netIn mostObjects m ends [] takes
 
 pub record Adding (m : ℕ) (ends takes sheet : List ℕ) : Type 0 where
-  pub few : m ≤ constraintLimit
-  pub named : (i : ℕ) → i < 2 * m → at ends i < objectLimit
+  pub few : m ≤ mostConstraints
+  pub named : (i : ℕ) → i < 2 * m → at ends i < mostObjects
   pub light : (e : ℕ) → e < m → at takes e ≤ 15
   pub long : sheetSize m ≤ length sheet
 
@@ -42,7 +43,7 @@ pub record AddedUp (d : Net) (s : Sheet) (e total given : ℕ) (load : List ℕ)
   pub fits : (i : ℕ) → i < e → shares s i ≤ d .takes i
   pub total-is : total ≡ sum e (d .takes)
   pub given-is : given ≡ sum e (shares s)
-  pub load-is : (v : ℕ) → v < objectLimit → at load v ≡ sum e (gets d s v)
+  pub load-is : (v : ℕ) → v < mostObjects → at load v ≡ sum e (gets d s v)
 
 -- the answer of adding up: all m constraints, or one that does not fit
 pub record Tallied (m : ℕ) (ends takes sheet : List ℕ) (fits : Bool) (total given : ℕ) (load : List ℕ) : Type 0 where
@@ -55,9 +56,9 @@ pub record HasRoom (n : ℕ) (load weights : List ℕ) (r : Bool) : Type 0 where
 
 -- constraint c has its ends among the objects
 pub record Ending (c : ℕ) (ends : List ℕ) : Type 0 where
-  pub low : c < constraintLimit
-  pub first : at ends (2 * c) < objectLimit
-  pub second : at ends (2 * c + 1) < objectLimit
+  pub low : c < mostConstraints
+  pub first : at ends (2 * c) < mostObjects
+  pub second : at ends (2 * c + 1) < mostObjects
 
 pub record Bare (c : ℕ) (ends load : List ℕ) (r : Bool) : Type 0 where
   pub first : r ≡ true → at load (at ends (2 * c)) ≡ 0

@@ -8,7 +8,7 @@ use lib.Dec.{leb, ltb}
 use lib.IntN.{ℤ}
 use lib.ListN.{length}
 use Rattle.density.specs.Net.{Set}
-use Rattle.density.specs.Top.{Top, Answer, NoneAt, LowestAbove}
+use Rattle.density.specs.Top.{Top, AnswerSet, NoneAt, LowestAbove}
 use Rattle.density.specs.Sheet.{Sound, claim}
 use Rattle.drawing.specs.Choice.{pick}
 use Rattle.drawing.specs.Entry.{Drawing}
@@ -48,7 +48,7 @@ lookOver room = record { fault = λ d. roomFault room countsSize; answer = λ d 
 pub record BlockOf (d : Drawing) (c : ℕ) (o : Outcome) : Type 0 where
   pub top : ℤ
   pub set : Set
-  pub answer : Answer (weighed d) c top set
+  pub answer : AnswerSet (weighed d) c top set
   pub is : o ≡ answered (block (length (d .objects)) c top set)
 
 abbrev pub oneConstraint : ℕ → ℕ → Question

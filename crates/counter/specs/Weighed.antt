@@ -6,7 +6,7 @@ use Rattle.drawing.specs.Choice.{pick}
 use Rattle.density.specs.Net.{Net, Proper, Side, first, second}
 use Rattle.density.specs.Listing.{Heavy}
 use Rattle.drawing.specs.Entry.{Drawing, constraintAt}
-use Rattle.drawing.specs.Fault.{mostObjects, mostConstraints}
+use Rattle.limits.specs.Limits.{mostObjects, mostConstraints}
 use Rattle.drawing.specs.Weight.{objectWeight, constraintWeight}
 
 abbrev pub endOf : Drawing → Side → ℕ → ℕ

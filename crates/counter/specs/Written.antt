@@ -3,7 +3,7 @@ use mathlib.Core.Path.{_≡_}
 use mathlib.Core.List.{List}
 use Prim.Native.Nat.{ℕ, _*_, _<_}
 use lib.ListN.{length, drop}
-use Rattle.routes.specs.Limits.{at}
+use Rattle.routes.specs.At.{at}
 use Rattle.drawing.specs.Format.{twoAt}
 
 -- share i in the two bytes at 2i, for m constraints, each with two; the bytes behind stay

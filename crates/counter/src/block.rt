@@ -1,12 +1,12 @@
 // The answer block: constraint number, density, set.
 use crate::SET;
-use drawing::OBJECTS;
+use limits::OBJECTS;
 ghost use mathlib.Core.Path.{_≡_};
 ghost use Prim.Native.Nat.{_+_, _<_, _≤_, _/_, _%_};
 ghost use lib.IntN.{subℕ};
 ghost use lib.ListN.{length, set};
 ghost use Rattle.density.specs.Sum.{counted};
-ghost use Rattle.drawing.specs.Fault.{mostObjects};
+ghost use Rattle.limits.specs.Limits.{mostObjects};
 ghost use Rattle.routes.specs.Arrays.{members};
 ghost use Rattle.counter.specs.Outcome.{over};
 ghost use Rattle.counter.specs.Block.{complement, setSize, setByte, setBytes, blockSize, block};

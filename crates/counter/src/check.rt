@@ -1,14 +1,15 @@
 // The check of a sheet: whether it is sound for c, and its claim the number claimed.
 use crate::sheet::wide;
-use drawing::CONSTRAINTS;
-use drawing::ENDS;
-use drawing::OBJECTS;
 use drawing::format::two_at;
+use limits::CONSTRAINTS;
+use limits::ENDS;
+use limits::OBJECTS;
 use routes::search::place_at;
 ghost use mathlib.Core.Path.{_≡_};
 ghost use Prim.Native.Nat.{_+_, _*_, _<_, _≤_};
 ghost use lib.ListN.{set};
-ghost use Rattle.routes.specs.Limits.{at, objectLimit};
+ghost use Rattle.limits.specs.Limits.{mostObjects};
+ghost use Rattle.routes.specs.At.{at};
 ghost use Rattle.counter.specs.Checked.{Adding, Tallied, HasRoom, Ending, Bare, EndsWeigh, Equals, Checking, Checked};
 
 // What the constraints of a sheet come to: whether each one's two shares fit its weight, and if so the sum of the weights, the sum of the
@@ -29,7 +30,7 @@ fn number(x: u8) -> usize
 
 // An object receives a share.
 fn receive(v: usize, share: u16, load: &mut [u16; OBJECTS])
-    requires { ⌜ (v < objectLimit) × (at (now load) v + share < 65536) ⌝ }
+    requires { ⌜ (v < mostObjects) × (at (now load) v + share < 65536) ⌝ }
     ensures { λ _. ⌜ now (load .exit) ≡ set (now (load .entry)) v (at (now (load .entry)) v + share) ⌝ }
 {
     load[v] = load[v] + share;
@@ -75,7 +76,7 @@ fn add_up(m: usize, ends: &[u16; ENDS], takes: &[u8; CONSTRAINTS], sheet: &[u8])
 
 // Whether no object receives more than its weight.
 fn has_room(n: usize, load: &[u16; OBJECTS], weights: &[u8; OBJECTS]) -> bool
-    requires { ⌜ n ≤ objectLimit ⌝ }
+    requires { ⌜ n ≤ mostObjects ⌝ }
     ensures { λ r. ⌜ HasRoom n (now (load .entry)) (now (weights .entry)) r ⌝ }
 {
     let mut v: usize = 0;

@@ -1,14 +1,14 @@
 // Counting a net that the arrays hold: the answer for one constraint, and the lowest constraint above K.
 use crate::range::is_above;
-use drawing::CONSTRAINTS;
-use drawing::ENDS;
-use drawing::OBJECTS;
+use limits::CONSTRAINTS;
+use limits::ENDS;
+use limits::OBJECTS;
 use routes::answer::Top;
 use routes::answer::answer;
 use routes::answer::base;
 use routes::answer::nothing;
 use routes::search::Marks;
-ghost use Rattle.routes.specs.Answered.{Answered};
+ghost use Rattle.routes.specs.Solved.{Solved};
 ghost use Rattle.counter.specs.Counting.{OneOf, AllAt, Sought};
 
 // Top density, answer set and sheet of constraint c.
@@ -21,7 +21,7 @@ pub fn one(
     takes: &[u8; CONSTRAINTS],
 ) -> Top
     requires { ⌜ OneOf n m c (now ends) (now weights) (now takes) ⌝ }
-    ensures { λ r. ⌜ Answered n m c (now (ends .entry)) (now (weights .entry)) (now (takes .entry)) (r .marks .objects) (r .shares) (r .above) (r .below) ⌝ }
+    ensures { λ r. ⌜ Solved n m c (now (ends .entry)) (now (weights .entry)) (now (takes .entry)) (r .marks .objects) (r .shares) (r .above) (r .below) ⌝ }
 {
     let start = nothing(n, m, ends, weights, takes);
     answer(n, m, c, ends, weights, takes, start)

@@ -5,7 +5,7 @@ use Prim.Native.Nat.{ℕ, _<_}
 use lib.IntN.{subℕ}
 use Rattle.density.specs.Sum.{counted}
 use Rattle.density.specs.Net.{Net, Proper, Set, first, second, holds}
-use Rattle.density.specs.Density.{held, free, density}
+use Rattle.density.specs.Density.{takenBy, free, density}
 use Rattle.density.proofs.Sums.{sum-same}
 
 -- S and R agree on the objects below n
@@ -16,8 +16,8 @@ module _ (d : Net) (ok : Proper d) (S R : Set) (alike : Alike (d .objects) S R) 
   pub holds-alike : (e : ℕ) → e < d .constraints → holds d S e ≡ holds d R e
   holds-alike e l = ap₂ _&&_ (alike (d .end first e) (ok .named first e l)) (alike (d .end second e) (ok .named second e l))
 
-  pub held-alike : held d S ≡ held d R
-  unfolding held
+  pub held-alike : takenBy d S ≡ takenBy d R
+  unfolding takenBy
   held-alike =
       sum-same (d .constraints) (λ e. counted (holds d S e) (d .takes e)) (λ e. counted (holds d R e) (d .takes e))
       (λ e l. ap (λ (b : Bool). counted b (d .takes e)) (holds-alike e l))

@@ -11,7 +11,7 @@ use borrow.Author.Tests.{eq-eqb, ne-eqb}
 use lib.Dec.{T, eqb}
 use Rattle.density.specs.Sum.{sum, counted}
 use Rattle.density.specs.Net.{Net, Proper, Set, Side, first, second, holds}
-use Rattle.density.specs.Density.{held, free}
+use Rattle.density.specs.Density.{takenBy, free}
 use Rattle.density.specs.Sheet.{Sheet, shares, gets, received, Sound, total, given, ends-weigh}
 use Rattle.density.specs.Closed.{Closed, Full}
 use Rattle.density.proofs.Tests.{and-left, and-right, tested}
@@ -181,8 +181,8 @@ module _ (d : Net) (ok : Proper d) (c : ℕ) (l : c < d .constraints) (s : Sheet
   had : ℕ → ℕ
   had e = d .takes e + lands d s S e
 
-  taken-sum : sum (d .constraints) taken ≡ held d S + given d s
-  unfolding taken held given
+  taken-sum : sum (d .constraints) taken ≡ takenBy d S + given d s
+  unfolding taken takenBy given
   taken-sum = sum-add (d .constraints) (λ e. counted (holds d S e) (d .takes e)) (shares s)
 
   had-sum : sum (d .constraints) had ≡ total d + landed d s S
@@ -193,10 +193,10 @@ module _ (d : Net) (ok : Proper d) (c : ℕ) (l : c < d .constraints) (s : Sheet
   unfolding taken had lands
   taken-le e le = over (S (d .end first e)) (S (d .end second e)) (d .takes e) (s first e) (s second e) (sound .fits e le)
 
-  constraint-le : held d S + given d s ≤ total d + landed d s S
+  constraint-le : takenBy d S + given d s ≤ total d + landed d s S
   constraint-le = subst₂ _≤_ taken-sum had-sum (sum-le (d .constraints) taken had taken-le)
 
-  constraint-eq : Closed d s S → held d S + given d s ≡ total d + landed d s S
+  constraint-eq : Closed d s S → takenBy d S + given d s ≡ total d + landed d s S
   unfolding taken had lands
   constraint-eq closed = sym taken-sum ∙ sum-same (d .constraints) taken had each ∙ had-sum
     where
@@ -206,15 +206,15 @@ module _ (d : Net) (ok : Proper d) (c : ℕ) (l : c < d .constraints) (s : Sheet
           (record { starts = closed .starts e le; first-on = closed .goes-on first e le; second-on = closed .goes-on second e le })
 
   -- "A sound sheet proves that no set holding c is denser than its claim."
-  pub cross-le : held d S + (given d s + ends-weigh d c) ≤ total d + free d S
+  pub cross-le : takenBy d S + (given d s + ends-weigh d c) ≤ total d + free d S
   cross-le = omega (arith, constraint-le, object-le)
 
   -- a set that no route leaves and that is full has the claim
-  pub cross-eq : Closed d s S → Full d c s S → held d S + (given d s + ends-weigh d c) ≡ total d + free d S
+  pub cross-eq : Closed d s S → Full d c s S → takenBy d S + (given d s + ends-weigh d c) ≡ total d + free d S
   cross-eq closed full = omega (arith, constraint-eq closed, object-eq full)
 
   -- no route leaves a set that has the claim
-  pub closed-if-even : held d S + (given d s + ends-weigh d c) ≡ total d + free d S → Closed d s S
+  pub closed-if-even : takenBy d S + (given d s + ends-weigh d c) ≡ total d + free d S → Closed d s S
   unfolding taken had lands
   closed-if-even eq = record { starts = λ e le. at e le .starts; goes-on = on }
     where

@@ -8,7 +8,7 @@ use native.Mathlib.Omega.{arith}
 use lib.Dec.{T, eqb, eqb-refl}
 use Rattle.density.specs.Sum.{sum, counted}
 use Rattle.density.specs.Net.{Net, Proper, Side, first, second}
-use Rattle.density.specs.Listing.{goes, between, Listings, Corresponds}
+use Rattle.density.specs.Listing.{goes, pairTakes, Listings, Corresponds}
 use Rattle.density.specs.Change.{Renumbered, SameObjects, Reordered, Exchanged, Joined, Change, renumbered, reordered, exchanged, joined, becomes, Changes, unchanged, made, undone}
 use Rattle.density.proofs.Tests.{and-both}
 use Rattle.density.proofs.Sums.{sum-same, sum-add, sum-swap, sum-one, sum-at, counted-sum}
@@ -31,17 +31,17 @@ abbrev onPair : Net → ℕ → ℕ → ℕ → ℕ
 onPair a u v e = takes-on (a .end first e) (a .end second e) (a .takes e) u v
 
 -- the constraints of b, one for one as those of d, take the same on a pair
-same-on : (d b : Net) (u v x y : ℕ) → b .constraints ≡ d .constraints → ((e : ℕ) → e < d .constraints → onPair b x y e ≡ onPair d u v e) → between b x y ≡ between d u v
-unfolding between takes-on
+same-on : (d b : Net) (u v x y : ℕ) → b .constraints ≡ d .constraints → ((e : ℕ) → e < d .constraints → onPair b x y e ≡ onPair d u v e) → pairTakes b x y ≡ pairTakes d u v
+unfolding pairTakes takes-on
 same-on d b u v x y k h = ap (λ (m : ℕ). sum m (onPair b x y)) k ∙ sum-same (d .constraints) (onPair b x y) (onPair d u v) h
 
 -- what is between two objects, one way round and the other
-both-ways : (a : Net) (u v : ℕ) → between a u v ≡ sum (a .constraints) (λ e. counted (goes a e u v) (a .takes e)) + sum (a .constraints) (λ e. counted (goes a e v u) (a .takes e))
-unfolding between
+both-ways : (a : Net) (u v : ℕ) → pairTakes a u v ≡ sum (a .constraints) (λ e. counted (goes a e u v) (a .takes e)) + sum (a .constraints) (λ e. counted (goes a e v u) (a .takes e))
+unfolding pairTakes
 both-ways a u v = sum-add (a .constraints) (λ e. counted (goes a e u v) (a .takes e)) (λ e. counted (goes a e v u) (a .takes e))
 
 -- the objects left as they are
-module _ (d b : Net) (o : SameObjects d b) (between-same : (u v : ℕ) → between b u v ≡ between d u v) where
+module _ (d b : Net) (o : SameObjects d b) (between-same : (u v : ℕ) → pairTakes b u v ≡ pairTakes d u v) where
   unmoved : Listings d b
   unmoved =
       record {
@@ -55,13 +55,13 @@ module _ (d b : Net) (o : SameObjects d b) (between-same : (u v : ℕ) → betwe
               to-from = λ v _. refl;
             };
         same-weight = o .same-weight;
-        same-between = λ u v _ _. between-same u v;
+        same-pairs = λ u v _ _. between-same u v;
       }
 
 renumbered-listings : (d b : Net) → Proper d → Renumbered d b → Listings d b
 unfolding takes-on
 renumbered-listings d b ok r =
-    record { to = r .to; from = r .from; matched = r .matched; same-weight = r .same-weight; same-between = λ u v hu hv. same-on d b u v (r .to u) (r .to v) (r .as-many) (each u v hu hv) }
+    record { to = r .to; from = r .from; matched = r .matched; same-weight = r .same-weight; same-pairs = λ u v hu hv. same-on d b u v (r .to u) (r .to v) (r .as-many) (each u v hu hv) }
   where
     -- ends are matched with the same objects as before
     same-end : (i : Side) (e u : ℕ) → e < d .constraints → u < d .objects → eqb (b .end i e) (r .to u) ≡ eqb (d .end i e) u
@@ -112,7 +112,7 @@ joined-listings d b r = unmoved d b (r .objects) same
         ∙ sum-same (d .constraints) (λ e. counted (goes b (r .into e) u v) (d .takes e)) (λ e. counted (goes d e u v) (d .takes e))
         (λ e le. ap₂ (λ (x y : ℕ). counted (eqb x u && eqb y v) (d .takes e)) (r .same-ends first e le) (r .same-ends second e le))
 
-    same : (u v : ℕ) → between b u v ≡ between d u v
+    same : (u v : ℕ) → pairTakes b u v ≡ pairTakes d u v
     same u v = both-ways b u v ∙ ap₂ _+_ (one-way u v) (one-way v u) ∙ sym (both-ways d u v)
 
 -- a reordering joins each constraint with no other

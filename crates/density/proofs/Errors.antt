@@ -9,62 +9,62 @@ use lib.Signed.{_≤ℤ_, _<ℤ_, leZ-yes, ltZ-yes, <ℤ-irrefl}
 use lib.ListN.{length}
 use Rattle.density.specs.Sum.{sum, counted}
 use Rattle.density.specs.Net.{Net, Set, Side, first, second}
-use Rattle.density.specs.Density.{held, free, density, Dense, NoneDense}
-use Rattle.density.specs.Top.{Reaches, Top, Answer}
+use Rattle.density.specs.Density.{takenBy, free, density, Dense, NoneDense}
+use Rattle.density.specs.Top.{Reaches, Top, AnswerSet}
 use Rattle.density.specs.Sheet.{Sheet, shares, received, Sound, total, given, remainder, claim}
-use Rattle.density.specs.Example.{Example, net, listed, points, distance, minus, in-D, own, B, C, I, J, L}
+use Rattle.density.specs.Example.{Example, netOf, setOf, points, distance, minus, in-D, own, B, C, I, J, L}
 use Rattle.density.specs.Right.{Right, result}
 use Rattle.density.proofs.One.{answer-top, tops-agree, none-no-set, no-set-none-dense}
 use Rattle.density.proofs.Table.{implies, implied, below-gives, right-gives, table-right}
 
 -- a density above the result is not the top density
-too-high : (x : Example) → Right x → (c : ℕ) → c < length (x .lines) → (u : ℤ) → result x c .density <ℤ u → Top (net x) c u → ⊥
+too-high : (x : Example) → Right x → (c : ℕ) → c < length (x .lines) → (u : ℤ) → result x c .density <ℤ u → Top (netOf x) c u → ⊥
 too-high x r c l u above top =
     <ℤ-irrefl
     (subst (λ (z : ℤ). z <ℤ u)
-    (tops-agree (net x) c (result x c .density) u (answer-top (net x) c (result x c .density) (listed (result x c .members)) (r .answers c l)) top)
+    (tops-agree (netOf x) c (result x c .density) u (answer-top (netOf x) c (result x c .density) (setOf (result x c .members)) (r .answers c l)) top)
     above)
 
 -- "Table weight plus stated weight: L would give 0."
-pub not-added : Top (net L) 0 (pos 0) → ⊥
+pub not-added : Top (netOf L) 0 (pos 0) → ⊥
 not-added = too-high L (table-right 11 (lit< tt)) 0 (lit< tt) (pos 0) (ltZ-yes tt)
 
 -- "A constraint counted once at each end: B would give -2."
-pub not-at-each-end : Top (net B) 0 (minus 2) → ⊥
+pub not-at-each-end : Top (netOf B) 0 (minus 2) → ⊥
 not-at-each-end = too-high B (table-right 1 (lit< tt)) 0 (lit< tt) (minus 2) (ltZ-yes tt)
 
 -- "Testing the whole drawing only: I as a whole has density -5 and hides D."
 abbrev whole : Set
 whole v = true
 
-pub whole-is-loose : density (net I) whole ≡ minus 5
-unfolding density held free sum
+pub whole-is-loose : density (netOf I) whole ≡ minus 5
+unfolding density takenBy free sum
 whole-is-loose = refl
 
-pub hidden-is-dense : Dense (net I) (minus 3) (listed in-D)
-unfolding density held free sum
+pub hidden-is-dense : Dense (netOf I) (minus 3) (setOf in-D)
+unfolding density takenBy free sum
 hidden-is-dense = record { above = ltZ-yes tt; some = 0; is = lit< tt; held-by = tt }
 
 -- "Giving the largest tied set: J would give five objects."
 abbrev five : Set
-five = listed (0 ∷ 1 ∷ 2 ∷ 3 ∷ 4 ∷ [])
+five = setOf (0 ∷ 1 ∷ 2 ∷ 3 ∷ 4 ∷ [])
 
-pub five-tie : Reaches (net J) 6 (minus 3) five
-unfolding density held free sum
+pub five-tie : Reaches (netOf J) 6 (minus 3) five
+unfolding density takenBy free sum
 five-tie = record { holding = tt; density-is = refl }
 
-pub five-are-no-answer : Answer (net J) 6 (minus 3) five → ⊥
-five-are-no-answer a = a .least (listed (0 ∷ 4 ∷ [])) (table-right 9 (lit< tt) .answers 6 (lit< tt) .reached) 1 (lit< tt) tt
+pub five-are-no-answer : AnswerSet (netOf J) 6 (minus 3) five → ⊥
+five-are-no-answer a = a .least (setOf (0 ∷ 4 ∷ [])) (table-right 9 (lit< tt) .answers 6 (lit< tt) .reached) 1 (lit< tt) tt
 
 -- "'At least K' for 'above K': C would be dense at -3."
-pub C-has-three : minus 3 ≤ℤ density (net C) (listed (0 ∷ 1 ∷ []))
-unfolding density held free sum
+pub C-has-three : minus 3 ≤ℤ density (netOf C) (setOf (0 ∷ 1 ∷ []))
+unfolding density takenBy free sum
 C-has-three = leZ-yes tt
 
-pub C-is-not-dense : NoneDense (net C) (minus 3)
+pub C-is-not-dense : NoneDense (netOf C) (minus 3)
 C-is-not-dense =
-    no-set-none-dense (net C) (table-right 2 (lit< tt) .proper) (minus 3) .0
-    (none-no-set (net C) (table-right 2 (lit< tt) .proper) (minus 3) .0 (table-right 2 (lit< tt) .is-said 0 (lit< tt)))
+    no-set-none-dense (netOf C) (table-right 2 (lit< tt) .proper) (minus 3) .0
+    (none-no-set (netOf C) (table-right 2 (lit< tt) .proper) (minus 3) .0 (table-right 2 (lit< tt) .is-said 0 (lit< tt)))
 
 -- "Taking the first set in which shares get stuck as the top one." In 0-1, 2-3, 2-4, 0-2 the two shares of 2-3 and 2-4 can both be put at
 -- object 2. Then nothing more can be placed: 0-2 alone has weight left besides 0-1, and both its ends are full. The sheet is sound for
@@ -85,11 +85,11 @@ greedy second e = 0
 
 -- v is full: it has no room, or it is an end of constraint 0
 abbrev full : ℕ → Bool
-full v = eqb (received (net Stuck-drawing) greedy v) 2 || (eqb v 0 || eqb v 1)
+full v = eqb (received (netOf Stuck-drawing) greedy v) 2 || (eqb v 0 || eqb v 1)
 
 -- nothing more can be placed: a constraint with weight left has two full ends
-pub greedy-is-stuck : (e : ℕ) → e < 4 → shares greedy e < net Stuck-drawing .takes e
-    → T (full (net Stuck-drawing .end first e) && full (net Stuck-drawing .end second e))
+pub greedy-is-stuck : (e : ℕ) → e < 4 → shares greedy e < netOf Stuck-drawing .takes e
+    → T (full (netOf Stuck-drawing .end first e) && full (netOf Stuck-drawing .end second e))
 unfolding received sum
 greedy-is-stuck e l left =
     implied (ltb (shares greedy e) (d .takes e)) (full (d .end first e) && full (d .end second e))
@@ -97,9 +97,9 @@ greedy-is-stuck e l left =
     (lt→ltb (shares greedy e) (d .takes e) left)
   where
     d : Net
-    d = net Stuck-drawing
+    d = netOf Stuck-drawing
 
-pub greedy-is-sound : Sound (net Stuck-drawing) 0 greedy
+pub greedy-is-sound : Sound (netOf Stuck-drawing) 0 greedy
 unfolding received sum
 greedy-is-sound =
     record {
@@ -109,16 +109,16 @@ greedy-is-sound =
     }
   where
     d : Net
-    d = net Stuck-drawing
+    d = netOf Stuck-drawing
 
     bare : (i : Side) → received d greedy (d .end i 0) ≡ 0
     bare first = refl
     bare second = refl
 
-pub greedy-claims : claim (net Stuck-drawing) 0 greedy ≡ minus 2
+pub greedy-claims : claim (netOf Stuck-drawing) 0 greedy ≡ minus 2
 unfolding claim remainder total given sum
 greedy-claims = refl
 
-pub stuck-is-not-top : Top (net Stuck-drawing) 0 (minus 2) → ⊥
-unfolding density held free sum
+pub stuck-is-not-top : Top (netOf Stuck-drawing) 0 (minus 2) → ⊥
+unfolding density takenBy free sum
 stuck-is-not-top = too-high Stuck-drawing (right-gives Stuck-drawing tt) 0 (lit< tt) (minus 2) (ltZ-yes tt)

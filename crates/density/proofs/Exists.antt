@@ -10,8 +10,8 @@ use lib.Dec.{T, eqb, eqb→eq, eqb-refl}
 use lib.IntN.{ℤ}
 use Rattle.density.specs.Sum.{sum, counted}
 use Rattle.density.specs.Net.{Net, Proper, Set, holds, Inside}
-use Rattle.density.specs.Density.{held, free, density}
-use Rattle.density.specs.Top.{Reaches, Bound, Answer}
+use Rattle.density.specs.Density.{takenBy, free, density}
+use Rattle.density.specs.Top.{Reaches, Bound, AnswerSet}
 use Rattle.density.proofs.Tests.{and-left, and-right, and-both}
 use Rattle.density.proofs.Sums.{sum-same, sum-le, sum-gap, counted-le}
 use Rattle.density.proofs.Integers.{le-of-cross, eq-of-cross, cross-of-eq}
@@ -37,16 +37,16 @@ free-le d S = sum-le (d .objects) (λ v. counted (S v) (d .weight v)) (d .weight
 pub record Answered (d : Net) (c : ℕ) : Type 0 where
   pub top : ℤ
   pub set : Set
-  pub answer : Answer d c top set
+  pub answer : AnswerSet d c top set
 
 module _ (d : Net) (ok : Proper d) (c : ℕ) (l : c < d .constraints) where
   abbrev everything : Set
   everything v = true
 
   -- the densest
-  densest : Best (λ S. holds d S c) (λ S. held d S + (all-weigh d - free d S))
+  densest : Best (λ S. holds d S c) (λ S. takenBy d S + (all-weigh d - free d S))
   densest =
-      best (d .objects) (λ S. holds d S c) (λ S. held d S + (all-weigh d - free d S)) (λ S R h. holds-alike d ok S R h c l)
+      best (d .objects) (λ S. holds d S c) (λ S. takenBy d S + (all-weigh d - free d S)) (λ S R h. holds-alike d ok S R h c l)
       (λ S R h. ap₂ (λ (x y : ℕ). x + (all-weigh d - y)) (held-alike d ok S R h) (free-alike d ok S R h))
       everything
       tt
@@ -60,35 +60,35 @@ module _ (d : Net) (ok : Proper d) (c : ℕ) (l : c < d .constraints) where
       record {
         no-denser =
             λ S h.
-            le-of-cross (held d S) (free d S) (held d D) (free d D) (omega (arith, densest .most S h, free-le d S, free-le d D));
+            le-of-cross (takenBy d S) (free d S) (takenBy d D) (free d D) (omega (arith, densest .most S h, free-le d S, free-le d D));
       }
 
   -- a set that holds c and is as dense
   abbrev as-dense : Set → Bool
-  as-dense S = holds d S c && eqb (held d S + free d D) (held d D + free d S)
+  as-dense S = holds d S c && eqb (takenBy d S + free d D) (takenBy d D + free d S)
 
   reaches : (S : Set) → T (as-dense S) → Reaches d c (density d D) S
   unfolding density
   reaches S t =
       record {
-        holding = and-left (holds d S c) (eqb (held d S + free d D) (held d D + free d S)) t;
+        holding = and-left (holds d S c) (eqb (takenBy d S + free d D) (takenBy d D + free d S)) t;
         density-is =
-            eq-of-cross (held d S) (free d S) (held d D) (free d D)
-            (eqb→eq (held d S + free d D) (held d D + free d S) (and-right (holds d S c) (eqb (held d S + free d D) (held d D + free d S)) t));
+            eq-of-cross (takenBy d S) (free d S) (takenBy d D) (free d D)
+            (eqb→eq (takenBy d S + free d D) (takenBy d D + free d S) (and-right (holds d S c) (eqb (takenBy d S + free d D) (takenBy d D + free d S)) t));
       }
 
   reached : (S : Set) → Reaches d c (density d D) S → T (as-dense S)
   unfolding density
   reached S r =
-      and-both (holds d S c) (eqb (held d S + free d D) (held d D + free d S)) (r .holding)
-      (subst (λ (x : ℕ). T (eqb (held d S + free d D) x)) (cross-of-eq (held d S) (free d S) (held d D) (free d D) (r .density-is)) (eqb-refl (held d S + free d D)))
+      and-both (holds d S c) (eqb (takenBy d S + free d D) (takenBy d D + free d S)) (r .holding)
+      (subst (λ (x : ℕ). T (eqb (takenBy d S + free d D) x)) (cross-of-eq (takenBy d S) (free d S) (takenBy d D) (free d D) (r .density-is)) (eqb-refl (takenBy d S + free d D)))
 
   -- the smallest of them
   smallest : Best as-dense (λ S. left-out d S)
   unfolding left-out
   smallest =
       best (d .objects) as-dense (λ S. left-out d S)
-      (λ S R h. ap₂ _&&_ (holds-alike d ok S R h c l) (ap₂ (λ (x y : ℕ). eqb (x + free d D) (held d D + y)) (held-alike d ok S R h) (free-alike d ok S R h)))
+      (λ S R h. ap₂ _&&_ (holds-alike d ok S R h c l) (ap₂ (λ (x y : ℕ). eqb (x + free d D) (takenBy d D + y)) (held-alike d ok S R h) (free-alike d ok S R h)))
       (λ S R h. sum-same (d .objects) (outside S) (outside R) (λ v lv. ap (λ (b : Bool). counted (not b) 1) (h v lv)))
       D
       (reached D (record { holding = densest .passes; density-is = refl }))

@@ -10,7 +10,7 @@ use lib.IntN.{ℤ}
 use lib.Signed.{_≤ℤ_}
 use Rattle.density.specs.Sum.{counted}
 use Rattle.density.specs.Net.{Net, Set, first, second, holds}
-use Rattle.density.specs.Density.{held, free, density}
+use Rattle.density.specs.Density.{takenBy, free, density}
 use Rattle.density.specs.Top.{Reaches, Bound}
 use Rattle.density.proofs.Tests.{and-left, and-right, and-both, or-left, or-right, tested}
 use Rattle.density.proofs.Sums.{sum-same, sum-le, sum-add, counted-yes, counted-no}
@@ -53,8 +53,8 @@ module _ (d : Net) (S R : Set) where
       go (inr s) (inl r) = omega (arith, counted-no (holds d S e) q s, counted-yes (holds d R e) q r, counted-yes (holds d (join S R) e) q (holds-right e r))
       go (inr s) (inr r) = omega (arith, counted-no (holds d S e) q s, counted-no (holds d R e) q r)
 
-  pub held-super : held d S + held d R ≤ held d (meet S R) + held d (join S R)
-  unfolding held
+  pub held-super : takenBy d S + takenBy d R ≤ takenBy d (meet S R) + takenBy d (join S R)
+  unfolding takenBy
   held-super =
       subst₂ _≤_ (sum-add m (λ e. counted (holds d S e) (d .takes e)) (λ e. counted (holds d R e) (d .takes e)))
       (sum-add m (λ e. counted (holds d (meet S R) e) (d .takes e)) (λ e. counted (holds d (join S R) e) (d .takes e)))
@@ -87,15 +87,15 @@ meet-reaches d c t bound S R s r =
     record {
       holding = both;
       density-is =
-          eq-of-cross (held d (meet S R)) (free d (meet S R)) (held d S) (free d S)
+          eq-of-cross (takenBy d (meet S R)) (free d (meet S R)) (takenBy d S) (free d S)
           (omega (arith, held-super d S R, free-even d S R, equal, under (meet S R) both, under (join S R) (holds-left d S R c (s .holding)))) ∙ s .density-is;
     }
   where
     both : T (holds d (meet S R) c)
     both = holds-meet d S R c (s .holding) (r .holding)
 
-    equal : held d S + free d R ≡ held d R + free d S
-    equal = cross-of-eq (held d S) (free d S) (held d R) (free d R) (s .density-is ∙ sym (r .density-is))
+    equal : takenBy d S + free d R ≡ takenBy d R + free d S
+    equal = cross-of-eq (takenBy d S) (free d S) (takenBy d R) (free d R) (s .density-is ∙ sym (r .density-is))
 
-    under : (Q : Set) → T (holds d Q c) → held d Q + free d S ≤ held d S + free d Q
-    under Q h = cross-of-le (held d Q) (free d Q) (held d S) (free d S) (subst (λ (z : ℤ). density d Q ≤ℤ z) (sym (s .density-is)) (bound .no-denser Q h))
+    under : (Q : Set) → T (holds d Q c) → takenBy d Q + free d S ≤ takenBy d S + free d Q
+    under Q h = cross-of-le (takenBy d Q) (free d Q) (takenBy d S) (free d S) (subst (λ (z : ℤ). density d Q ≤ℤ z) (sym (s .density-is)) (bound .no-denser Q h))

@@ -10,9 +10,9 @@ use lib.IntN.{ℤ, subℕ}
 use lib.Signed.{_≤ℤ_, _<ℤ_}
 use Rattle.density.specs.Sum.{sum, counted}
 use Rattle.density.specs.Net.{Net, Proper, Set, first, second, holds}
-use Rattle.density.specs.Density.{held, free, density, HasDense}
-use Rattle.density.specs.Top.{Reaches, Bound, Top, Answer}
-use Rattle.density.specs.Listing.{goes, between, Matching, Listings, Corresponds, image, Heavy}
+use Rattle.density.specs.Density.{takenBy, free, density, HasDense}
+use Rattle.density.specs.Top.{Reaches, Bound, Top, AnswerSet}
+use Rattle.density.specs.Listing.{goes, pairTakes, Matching, Listings, Corresponds, image, Heavy}
 use Rattle.density.proofs.Tests.{and-left, and-right, and-both, tested}
 use Rattle.density.proofs.Sums.{sum-same, term-le, some-term, counted-yes, counted-no, counted-some}
 use Rattle.density.proofs.Alike.{Alike, holds-alike, density-alike}
@@ -30,9 +30,9 @@ listings-back {d} {b} l =
       from = l .to;
       matched = matching-back (l .matched);
       same-weight = λ v h. sym (l .same-weight (l .from v) (below v h)) ∙ ap (b .weight) (l .matched .to-from v h);
-      same-between =
+      same-pairs =
           λ u v hu hv.
-          sym (l .same-between (l .from u) (l .from v) (below u hu) (below v hv)) ∙ ap₂ (between b) (l .matched .to-from u hu) (l .matched .to-from v hv);
+          sym (l .same-pairs (l .from u) (l .from v) (below u hu) (below v hv)) ∙ ap₂ (pairTakes b) (l .matched .to-from u hu) (l .matched .to-from v hv);
     }
   where
     below : (v : ℕ) → v < b .objects → l .from v < d .objects
@@ -51,7 +51,7 @@ listings-then {d} {b} {a} l k =
             to-from = λ v h. ap (k .to) (l .matched .to-from (k .from v) (k .matched .from-below v h)) ∙ k .matched .to-from v h;
           };
       same-weight = λ v h. k .same-weight (l .to v) (below v h) ∙ l .same-weight v h;
-      same-between = λ u v hu hv. k .same-between (l .to u) (l .to v) (below u hu) (below v hv) ∙ l .same-between u v hu hv;
+      same-pairs = λ u v hu hv. k .same-pairs (l .to u) (l .to v) (below u hu) (below v hv) ∙ l .same-pairs u v hu hv;
     }
   where
     below : (v : ℕ) → v < d .objects → l .to v < b .objects
@@ -64,7 +64,7 @@ module _ (d b : Net) (okd : Proper d) (okb : Proper b) (l : Listings d b) where
   abbrev back : Set → Set
   back S v = S (l .to v)
 
-  held-back : (S : Set) → held b S ≡ held d (back S)
+  held-back : (S : Set) → takenBy b S ≡ takenBy d (back S)
   unfolding pairs
   held-back S = omega (arith, twice)
     where
@@ -74,15 +74,15 @@ module _ (d b : Net) (okd : Proper d) (okb : Proper b) (l : Listings d b) where
       k : ℕ
       k = b .objects
 
-      rows : pairs k S (between b) ≡ pairs n (back S) (λ u v. between b (l .to u) (l .to v))
+      rows : pairs k S (pairTakes b) ≡ pairs n (back S) (λ u v. pairTakes b (l .to u) (l .to v))
       rows =
-          sum-match n k (l .to) (l .from) (l .matched) (λ u. sum k (λ v. counted (S u && S v) (between b u v)))
-          ∙ sum-same n (λ u. sum k (λ v. counted (S (l .to u) && S v) (between b (l .to u) v))) (λ u. sum n (λ v. counted (S (l .to u) && S (l .to v)) (between b (l .to u) (l .to v))))
-          (λ u _. sum-match n k (l .to) (l .from) (l .matched) (λ v. counted (S (l .to u) && S v) (between b (l .to u) v)))
+          sum-match n k (l .to) (l .from) (l .matched) (λ u. sum k (λ v. counted (S u && S v) (pairTakes b u v)))
+          ∙ sum-same n (λ u. sum k (λ v. counted (S (l .to u) && S v) (pairTakes b (l .to u) v))) (λ u. sum n (λ v. counted (S (l .to u) && S (l .to v)) (pairTakes b (l .to u) (l .to v))))
+          (λ u _. sum-match n k (l .to) (l .from) (l .matched) (λ v. counted (S (l .to u) && S v) (pairTakes b (l .to u) v)))
 
-      twice : held b S + held b S ≡ held d (back S) + held d (back S)
+      twice : takenBy b S + takenBy b S ≡ takenBy d (back S) + takenBy d (back S)
       twice =
-          sym (held-twice b okb S) ∙ rows ∙ pairs-same n (back S) (λ u v. between b (l .to u) (l .to v)) (between d) (l .same-between) ∙ held-twice d okd (back S)
+          sym (held-twice b okb S) ∙ rows ∙ pairs-same n (back S) (λ u v. pairTakes b (l .to u) (l .to v)) (pairTakes d) (l .same-pairs) ∙ held-twice d okd (back S)
 
   free-back : (S : Set) → free b S ≡ free d (back S)
   unfolding free
@@ -129,7 +129,7 @@ module _ (d b : Net) (okd : Proper d) (okb : Proper b) (l : Listings d b) where
     pub top-carries : Top d e t → Top b f t
     top-carries top = record { set = image l (top .set); reached = reaches-image (top .set) (top .reached); greatest = bound-carries (top .greatest) }
 
-    pub answer-carries : (M : Set) → Answer d e t M → Answer b f t (image l M)
+    pub answer-carries : (M : Set) → AnswerSet d e t M → AnswerSet b f t (image l M)
     answer-carries M a =
         record {
           reached = reaches-image M (a .reached);
@@ -143,7 +143,7 @@ module _ (d b : Net) (okd : Proper d) (okb : Proper b) (l : Listings d b) where
 
   -- a constraint that takes something has one that corresponds
   pub correspondent : (e : ℕ) → e < d .constraints → 0 < d .takes e → (f : ℕ) × (f < b .constraints) × Corresponds l e f
-  unfolding between
+  unfolding pairTakes
   correspondent e le some = found (some-term (b .constraints) (onPair b (l .to u) (l .to v)) there)
     where
       u : ℕ
@@ -158,11 +158,11 @@ module _ (d b : Net) (okd : Proper d) (okb : Proper b) (l : Listings d b) where
       here : T (goes d e u v)
       here = and-both (eqb u u) (eqb v v) (eqb-refl u) (eqb-refl v)
 
-      there : 0 < between b (l .to u) (l .to v)
+      there : 0 < pairTakes b (l .to u) (l .to v)
       there =
           omega (
             arith,
-            l .same-between u v (okd .named first e le) (okd .named second e le),
+            l .same-pairs u v (okd .named first e le) (okd .named second e le),
             term-le (d .constraints) (onPair d u v) e le,
             counted-yes (goes d e u v) (d .takes e) here,
           )

@@ -12,7 +12,7 @@ use lib.IntN.{ℤ}
 use lib.Signed.{_≤ℤ_, _<ℤ_, clashℤ}
 use Rattle.density.specs.Net.{Net, Proper, Set, holds}
 use Rattle.density.specs.Density.{density, NoneDense}
-use Rattle.density.specs.Top.{Reaches, Bound, Top, Answer, NoneAt, NoSetAbove, LowestAbove}
+use Rattle.density.specs.Top.{Reaches, Bound, Top, AnswerSet, NoneAt, NoSetAbove, LowestAbove}
 use Rattle.density.proofs.Alike.{Alike, holds-alike, density-alike}
 use Rattle.density.proofs.Integers.{lt-or-le, ≤ℤ-antisym, ≤ℤ-trans}
 use Rattle.density.proofs.Exists.{Answered, answer-exists}
@@ -21,7 +21,7 @@ use Rattle.density.proofs.Exists.{Answered, answer-exists}
 pub reached-under : (d : Net) (c : ℕ) (t u : ℤ) (S : Set) → Reaches d c t S → Bound d c u → t ≤ℤ u
 reached-under d c t u S r b = subst (λ (z : ℤ). z ≤ℤ u) (r .density-is) (b .no-denser S (r .holding))
 
-pub answer-top : (d : Net) (c : ℕ) (t : ℤ) (M : Set) → Answer d c t M → Top d c t
+pub answer-top : (d : Net) (c : ℕ) (t : ℤ) (M : Set) → AnswerSet d c t M → Top d c t
 answer-top d c t M a = record { set = M; reached = a .reached; greatest = a .greatest }
 
 pub tops-agree : (d : Net) (c : ℕ) (t u : ℤ) → Top d c t → Top d c u → t ≡ u
@@ -34,7 +34,7 @@ same-test true false f g = absurd (f tt)
 same-test false true f g = absurd (g tt)
 same-test false false f g = refl
 
-pub answers-agree : (d : Net) (c : ℕ) (t u : ℤ) (M R : Set) → Answer d c t M → Answer d c u R → (t ≡ u) × Alike (d .objects) M R
+pub answers-agree : (d : Net) (c : ℕ) (t u : ℤ) (M R : Set) → AnswerSet d c t M → AnswerSet d c u R → (t ≡ u) × Alike (d .objects) M R
 answers-agree d c t u M R a b =
     (same, λ v l. same-test (M v) (R v) (a .least R (subst (λ (z : ℤ). Reaches d c z R) (sym same) (b .reached)) v l) (b .least M (subst (λ (z : ℤ). Reaches d c z M) same (a .reached)) v l))
   where
@@ -42,7 +42,7 @@ answers-agree d c t u M R a b =
     same = tops-agree d c t u (answer-top d c t M a) (answer-top d c u R b)
 
 -- a set that agrees with the answer set on every object is the answer set
-pub answer-alike : (d : Net) → Proper d → (c : ℕ) → c < d .constraints → (t : ℤ) (M R : Set) → Alike (d .objects) M R → Answer d c t M → Answer d c t R
+pub answer-alike : (d : Net) → Proper d → (c : ℕ) → c < d .constraints → (t : ℤ) (M R : Set) → Alike (d .objects) M R → AnswerSet d c t M → AnswerSet d c t R
 answer-alike d ok c l t M R h a =
     record {
       reached = record { holding = subst T (holds-alike d ok M R h c l) (a .reached .holding); density-is = sym (density-alike d ok M R h) ∙ a .reached .density-is };

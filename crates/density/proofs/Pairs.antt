@@ -7,8 +7,8 @@ use borrow.Author.Tests.{eq-eqb, ne-eqb}
 use lib.Dec.{eqb}
 use Rattle.density.specs.Sum.{sum, counted}
 use Rattle.density.specs.Net.{Net, Proper, Set, first, second, holds}
-use Rattle.density.specs.Density.{held}
-use Rattle.density.specs.Listing.{goes, between, Matching}
+use Rattle.density.specs.Density.{takenBy}
+use Rattle.density.specs.Listing.{goes, pairTakes, Matching}
 use Rattle.density.proofs.Sums.{sum-same, sum-add, sum-swap, sum-one, sum-at, counted-sum, counted-add, counted-both, counted-swap}
 
 -- ---- matched numbers
@@ -93,8 +93,8 @@ pairs-one n a b q S la lb =
         ∙ counted-swap (S u && S b) (eqb a u) q
 
 -- over the pairs of a set, both ways round, what the constraints take is twice what the set holds
-pub held-twice : (d : Net) → Proper d → (S : Set) → pairs (d .objects) S (between d) ≡ held d S + held d S
-unfolding between held
+pub held-twice : (d : Net) → Proper d → (S : Set) → pairs (d .objects) S (pairTakes d) ≡ takenBy d S + takenBy d S
+unfolding pairTakes takenBy
 held-twice d ok S =
     pairs-sum n m S (λ e u v. one e u v + one e v u)
     ∙ sum-same m (λ e. pairs n S (λ u v. one e u v + one e v u)) (λ e. counted (holds d S e) (d .takes e) + counted (holds d S e) (d .takes e)) each

@@ -8,8 +8,8 @@ use lib.IntN.{ℤ, pos, subℕ, _-ℤ_}
 use lib.Signed.{_≤ℤ_}
 use Rattle.density.specs.Sum.{counted}
 use Rattle.density.specs.Net.{Net, Proper, Set, Side, first, second, holds, Inside}
-use Rattle.density.specs.Density.{held, free, density}
-use Rattle.density.specs.Top.{Reaches, Bound, Answer}
+use Rattle.density.specs.Density.{takenBy, free, density}
+use Rattle.density.specs.Top.{Reaches, Bound, AnswerSet}
 use Rattle.density.specs.Sheet.{Sheet, shares, gets, received, Sound, total, given, remainder, ends-weigh, claim}
 use Rattle.density.specs.Closed.{Closed, Full}
 use Rattle.density.proofs.Sums.{sum-same}
@@ -54,7 +54,7 @@ module _ (d : Net) (ok : Proper d) (c : ℕ) (l : c < d .constraints) (s : Sheet
         no-denser =
             λ S h.
             subst (λ (z : ℤ). density d S ≤ℤ z) (sym (claim-is d c s))
-            (le-of-cross (held d S) (free d S) (total d) (given d s + ends-weigh d c) (cross-le d ok c l s sound S h));
+            (le-of-cross (takenBy d S) (free d S) (total d) (given d s + ends-weigh d c) (cross-le d ok c l s sound S h));
       }
 
   -- a set that holds c, that no route leaves and that is full outside c's ends has exactly the claim
@@ -64,7 +64,7 @@ module _ (d : Net) (ok : Proper d) (c : ℕ) (l : c < d .constraints) (s : Sheet
       record {
         holding = h;
         density-is =
-            eq-of-cross (held d M) (free d M) (total d) (given d s + ends-weigh d c) (cross-eq d ok c l s sound M h closed full)
+            eq-of-cross (takenBy d M) (free d M) (total d) (given d s + ends-weigh d c) (cross-eq d ok c l s sound M h closed full)
             ∙ sym (claim-is d c s);
       }
 
@@ -73,11 +73,11 @@ module _ (d : Net) (ok : Proper d) (c : ℕ) (l : c < d .constraints) (s : Sheet
   unfolding density
   reaching-closed S r =
       closed-if-even d ok c l s sound S (r .holding)
-      (cross-of-eq (held d S) (free d S) (total d) (given d s + ends-weigh d c) (r .density-is ∙ claim-is d c s))
+      (cross-of-eq (takenBy d S) (free d S) (total d) (given d s + ends-weigh d c) (r .density-is ∙ claim-is d c s))
 
   -- so the least such set is the answer set
   pub least-closed-answers : (M : Set) → T (holds d M c) → Closed d s M → Full d c s M
-      → ((S : Set) → T (holds d S c) → Closed d s S → Inside d M S) → Answer d c (claim d c s) M
+      → ((S : Set) → T (holds d S c) → Closed d s S → Inside d M S) → AnswerSet d c (claim d c s) M
   least-closed-answers M h closed full least =
       record {
         reached = closed-reaches M h closed full;

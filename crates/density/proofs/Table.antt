@@ -10,10 +10,10 @@ use lib.IntN.{ℤ, pos}
 use lib.Signed.{_≤ℤ_, _<ℤ_, leZ, ltZ, leZ-yes, ltZ-yes, clashℤ, ≤ℤ-refl}
 use lib.ListN.{length, getD}
 use Rattle.density.specs.Net.{Net, Proper, Set, Side, first, second, holds, Inside}
-use Rattle.density.specs.Density.{held, free, density}
+use Rattle.density.specs.Density.{takenBy, free, density}
 use Rattle.density.specs.Sum.{sum}
-use Rattle.density.specs.Top.{Reaches, Top, Answer}
-use Rattle.density.specs.Example.{Example, Result, Said, none-at, dense-at, net, listed, A, table}
+use Rattle.density.specs.Top.{Reaches, Top, AnswerSet}
+use Rattle.density.specs.Example.{Example, Result, Said, none-at, dense-at, netOf, setOf, A, table}
 use Rattle.density.specs.Right.{result, IsSaid, Right}
 use Rattle.density.proofs.Tests.{and-left, and-right}
 use Rattle.density.proofs.Integers.{≤ℤ-antisym}
@@ -44,7 +44,7 @@ set-test d c t M S = implies (holds d S c) (leZ (density d S) t && implies (leZ 
 
 abbrev answer-test : Net → ℕ → Result → Bool
 answer-test d c r =
-    holds d (listed (r .members)) c && (leZ (r .density) (density d (listed (r .members))) && every (d .objects) (set-test d c (r .density) (listed (r .members))) none)
+    holds d (setOf (r .members)) c && (leZ (r .density) (density d (setOf (r .members))) && every (d .objects) (set-test d c (r .density) (setOf (r .members))) none)
 
 abbrev said-test : Example → Said → Bool
 said-test x (none-at k) = below (length (x .lines)) (λ e. leZ (result x e .density) k)
@@ -55,13 +55,13 @@ said-at x i = getD (x .said) i (none-at (pos 0))
 
 abbrev pub right-test : Example → Bool
 right-test x =
-    proper-test (net x)
+    proper-test (netOf x)
     && (eqb (length (x .results)) (length (x .lines))
-    && (below (length (x .lines)) (λ c. answer-test (net x) c (result x c)) && below (length (x .said)) (λ i. said-test x (said-at x i))))
+    && (below (length (x .lines)) (λ c. answer-test (netOf x) c (result x c)) && below (length (x .said)) (λ i. said-test x (said-at x i))))
 
 -- the whole table, computed
 table-test : T (below (length table) (λ i. right-test (getD table i A)))
-unfolding density held free sum
+unfolding density takenBy free sum
 table-test = tt
 
 -- ---- what the tests give
@@ -107,11 +107,11 @@ proper-gives d t = record { named = named; apart = λ e l q. T-not (eqb (a e) (b
     named first e l = ltb→lt (a e) n (and-left (ltb (a e) n) (ltb (b e) n && not (eqb (a e) (b e))) (at e l))
     named second e l = ltb→lt (b e) n (and-left (ltb (b e) n) (not (eqb (a e) (b e))) (rest e l))
 
-answer-gives : (d : Net) → Proper d → (c : ℕ) → c < d .constraints → (r : Result) → T (answer-test d c r) → Answer d c (r .density) (listed (r .members))
+answer-gives : (d : Net) → Proper d → (c : ℕ) → c < d .constraints → (r : Result) → T (answer-test d c r) → AnswerSet d c (r .density) (setOf (r .members))
 answer-gives d ok c l r t = record { reached = reached; greatest = record { no-denser = λ S h. leZ-yes (and-left (under S) (then S) (at S h)) }; least = least }
   where
     M : Set
-    M = listed (r .members)
+    M = setOf (r .members)
 
     z : ℤ
     z = r .density
@@ -153,9 +153,9 @@ answer-gives d ok c l r t = record { reached = reached; greatest = record { no-d
         inside : T (inside-test d M S)
         inside = implied (leZ z (density d S)) (inside-test d M S) (and-right (under S) (then S) (at S (q .holding))) (subst (λ (y : ℤ). T (leZ z y)) (sym (q .density-is)) (≤ℤ-refl z .le))
 
-said-gives : (x : Example) → ((c : ℕ) → c < length (x .lines) → Top (net x) c (result x c .density)) → (s : Said) → T (said-test x s) → IsSaid (net x) s
+said-gives : (x : Example) → ((c : ℕ) → c < length (x .lines) → Top (netOf x) c (result x c .density)) → (s : Said) → T (said-test x s) → IsSaid (netOf x) s
 said-gives x top (none-at k) t = λ c u l q.
-    subst (λ (z : ℤ). z ≤ℤ k) (tops-agree (net x) c (result x c .density) u (top c l) q)
+    subst (λ (z : ℤ). z ≤ℤ k) (tops-agree (netOf x) c (result x c .density) u (top c l) q)
     (leZ-yes (below-gives (length (x .lines)) (λ e. leZ (result x e .density) k) t c l))
 said-gives x top (dense-at k c) t =
     record {
@@ -175,11 +175,11 @@ said-gives x top (dense-at k c) t =
     rest : T (ltZ k (result x c .density) && below c (λ e. leZ (result x e .density) k))
     rest = and-right (ltb c m) (ltZ k (result x c .density) && below c (λ e. leZ (result x e .density) k)) t
 
-    lowest : (e : ℕ) (u : ℤ) → e < m → Top (net x) e u → k <ℤ u → Dec (c ≤ e) → c ≤ e
+    lowest : (e : ℕ) (u : ℤ) → e < m → Top (netOf x) e u → k <ℤ u → Dec (c ≤ e) → c ≤ e
     lowest e u l q above (yes h) = h
     lowest e u l q above (no h) =
         clashℤ above
-        (subst (λ (z : ℤ). z ≤ℤ k) (tops-agree (net x) e (result x e .density) u (top e l) q)
+        (subst (λ (z : ℤ). z ≤ℤ k) (tops-agree (netOf x) e (result x e .density) u (top e l) q)
         (leZ-yes (below-gives c (λ e. leZ (result x e .density) k) (and-right (ltZ k (result x c .density)) (below c (λ e. leZ (result x e .density) k)) rest) e (omega arith))))
 
 pub right-gives : (x : Example) → T (right-test x) → Right x
@@ -192,25 +192,25 @@ right-gives x t = record { proper = proper; as-many = eqb→eq (length (x .resul
     p = eqb (length (x .results)) m
 
     q : Bool
-    q = below m (λ c. answer-test (net x) c (result x c))
+    q = below m (λ c. answer-test (netOf x) c (result x c))
 
     r : Bool
     r = below (length (x .said)) (λ i. said-test x (said-at x i))
 
-    proper : Proper (net x)
-    proper = proper-gives (net x) (and-left (proper-test (net x)) (p && (q && r)) t)
+    proper : Proper (netOf x)
+    proper = proper-gives (netOf x) (and-left (proper-test (netOf x)) (p && (q && r)) t)
 
     t₁ : T (p && (q && r))
-    t₁ = and-right (proper-test (net x)) (p && (q && r)) t
+    t₁ = and-right (proper-test (netOf x)) (p && (q && r)) t
 
-    answers : (c : ℕ) → c < m → Answer (net x) c (result x c .density) (listed (result x c .members))
+    answers : (c : ℕ) → c < m → AnswerSet (netOf x) c (result x c .density) (setOf (result x c .members))
     answers c l =
-        answer-gives (net x) proper c l (result x c)
-        (below-gives m (λ c. answer-test (net x) c (result x c)) (and-left q r (and-right p (q && r) t₁)) c l)
+        answer-gives (netOf x) proper c l (result x c)
+        (below-gives m (λ c. answer-test (netOf x) c (result x c)) (and-left q r (and-right p (q && r) t₁)) c l)
 
-    said : (i : ℕ) → i < length (x .said) → IsSaid (net x) (said-at x i)
+    said : (i : ℕ) → i < length (x .said) → IsSaid (netOf x) (said-at x i)
     said i l =
-        said-gives x (λ c lc. answer-top (net x) c (result x c .density) (listed (result x c .members)) (answers c lc)) (said-at x i)
+        said-gives x (λ c lc. answer-top (netOf x) c (result x c .density) (setOf (result x c .members)) (answers c lc)) (said-at x i)
         (below-gives (length (x .said)) (λ i. said-test x (said-at x i)) (and-right q r (and-right p (q && r) t₁)) i l)
 
 pub table-right : (i : ℕ) → i < length table → Right (getD table i A)

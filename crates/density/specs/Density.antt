@@ -7,8 +7,8 @@ use Rattle.density.specs.Sum.{sum, counted}
 use Rattle.density.specs.Net.{Net, Set, holds}
 
 -- "the sum of the weights of the constraints it holds"
-unfoldable pub held : Net → Set → ℕ
-held d S = sum (d .constraints) (λ e. counted (holds d S e) (d .takes e))
+unfoldable pub takenBy : Net → Set → ℕ
+takenBy d S = sum (d .constraints) (λ e. counted (holds d S e) (d .takes e))
 
 -- "the sum of the weights of its objects"
 unfoldable pub free : Net → Set → ℕ
@@ -16,7 +16,7 @@ free d S = sum (d .objects) (λ v. counted (S v) (d .weight v))
 
 -- "The density of a set is the sum of the weights of the constraints it holds, less the sum of the weights of its objects."
 unfoldable pub density : Net → Set → ℤ
-density d S = subℕ (held d S) (free d S)
+density d S = subℕ (takenBy d S) (free d S)
 
 -- "A set is dense at K if its density is strictly above K and it holds at least one constraint."
 pub record Dense (d : Net) (K : ℤ) (S : Set) : Type 0 where

@@ -37,8 +37,8 @@ abbrev pub end-of : Side → Line → ℕ
 end-of first l = l .from
 end-of second l = l .to
 
-abbrev pub net : Example → Net
-net x =
+abbrev pub netOf : Example → Net
+netOf x =
     record {
       objects = length (x .weights);
       constraints = length (x .lines);
@@ -48,9 +48,9 @@ net x =
     }
 
 -- the set of the listed objects
-abbrev pub listed : List ℕ → Set
-listed [] v = false
-listed (x ∷ xs) v = eqb x v || listed xs v
+abbrev pub setOf : List ℕ → Set
+setOf [] v = false
+setOf (x ∷ xs) v = eqb x v || setOf xs v
 
 -- ---- the words of the table
 

@@ -14,8 +14,8 @@ abbrev pub goes : Net → ℕ → ℕ → ℕ → Bool
 goes d e u v = eqb (d .end first e) u && eqb (d .end second e) v
 
 -- what all constraints on the pair u, v take, whichever of the two is the first end
-unfoldable pub between : Net → ℕ → ℕ → ℕ
-between d u v = sum (d .constraints) (λ e. counted (goes d e u v) (d .takes e) + counted (goes d e v u) (d .takes e))
+unfoldable pub pairTakes : Net → ℕ → ℕ → ℕ
+pairTakes d u v = sum (d .constraints) (λ e. counted (goes d e u v) (d .takes e) + counted (goes d e v u) (d .takes e))
 
 -- the numbers below n and those below k are matched one to one: `to` renumbers, `from` undoes it
 pub record Matching (n k : ℕ) (to from : ℕ → ℕ) : Type 0 where
@@ -31,7 +31,7 @@ pub record Listings (d b : Net) : Type 0 where
   pub from : ℕ → ℕ
   pub matched : Matching (d .objects) (b .objects) to from
   pub same-weight : (v : ℕ) → v < d .objects → b .weight (to v) ≡ d .weight v
-  pub same-between : (u v : ℕ) → u < d .objects → v < d .objects → between b (to u) (to v) ≡ between d u v
+  pub same-pairs : (u v : ℕ) → u < d .objects → v < d .objects → pairTakes b (to u) (to v) ≡ pairTakes d u v
 
 -- constraint e of d and constraint f of b correspond: f is on the pair that e's ends are matched with
 abbrev pub Corresponds : {d b : Net} → Listings d b → ℕ → ℕ → Type 0

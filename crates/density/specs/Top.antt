@@ -23,7 +23,7 @@ pub record Top (d : Net) (c : ℕ) (t : ℤ) : Type 0 where
   pub greatest : Bound d c t
 
 -- "The answer set is the one set with top density that lies inside every other such set."
-pub record Answer (d : Net) (c : ℕ) (t : ℤ) (M : Set) : Type 0 where
+pub record AnswerSet (d : Net) (c : ℕ) (t : ℤ) (M : Set) : Type 0 where
   pub reached : Reaches d c t M
   pub greatest : Bound d c t
   pub least : (S : Set) → Reaches d c t S → Inside d M S

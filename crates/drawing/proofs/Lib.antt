@@ -5,7 +5,7 @@ pub mod Heads
 pub mod Order
 pub mod Refusals
 pub mod Enough
-pub mod Held
+pub mod ReadInto
 pub mod Listed
 pub mod Stores
 pub mod Weighing

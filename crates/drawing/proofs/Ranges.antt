@@ -7,13 +7,13 @@ use lib.Dec.{eqb, lit≤}
 use borrow.Author.Tests.{eqb-false}
 use Rattle.drawing.specs.Table.{cluster, objectTable, allowed, tableWeight}
 use Rattle.drawing.specs.Entry.{Drawing, kindOf}
-use Rattle.drawing.specs.Fault.{mostStated}
+use Rattle.limits.specs.Limits.{mostWeight}
 use Rattle.drawing.specs.Sound.{SoundDrawing, Weight}
 use Rattle.drawing.specs.Weight.{inForce, objectWeight, constraintWeight}
 use Rattle.drawing.proofs.Passed.{by-pick}
 
 -- a stated weight of at most 15 in the place of a weight
-in-force : (stated table : ℕ) → stated ≤ mostStated → Weight table → Weight (inForce stated table)
+in-force : (stated table : ℕ) → stated ≤ mostWeight → Weight table → Weight (inForce stated table)
 unfolding inForce
 in-force stated table small w =
     by-pick Weight (eqb stated 0) table stated
@@ -32,8 +32,8 @@ unfolding tableWeight
 constraint-in-table k a b h = record {
   least = omega arith;
   most =
-      by-pick (λ w. w ≤ mostStated) (allowed k a b) _ _
-      (λ _. by-pick (λ w. w ≤ mostStated) (eqb k 3 || eqb k 6 || eqb k 7) 2 1 (λ _. lit≤ tt) (λ _. lit≤ tt))
+      by-pick (λ w. w ≤ mostWeight) (allowed k a b) _ _
+      (λ _. by-pick (λ w. w ≤ mostWeight) (eqb k 3 || eqb k 6 || eqb k 7) 2 1 (λ _. lit≤ tt) (λ _. lit≤ tt))
       (λ _. lit≤ tt);
 }
 

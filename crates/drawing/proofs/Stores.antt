@@ -7,7 +7,7 @@ use lib.ListN.{getD, set, replicate, length-set, length-replicate}
 use lib.Seq.{getD-set-same, getD-set-other}
 use borrow.Author.Count.{below-more}
 use Rattle.drawing.specs.Arrays.{ZeroFrom}
-use Rattle.drawing.specs.Weighed.{Filled}
+use Rattle.drawing.specs.WeightArrays.{Filled}
 
 -- below the index of a store nothing changes
 pub below-store : (l : List ℕ) (k v i : ℕ) → i < k → getD (set l k v) i 0 ≡ getD l i 0

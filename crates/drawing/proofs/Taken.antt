@@ -9,10 +9,11 @@ use Rattle.drawing.specs.declared.Object.{Object}
 use Rattle.drawing.specs.declared.Constraint.{Constraint}
 use Rattle.drawing.specs.Choice.{pick}
 use Rattle.drawing.specs.Entry.{Drawing, withObject, withConstraint}
-use Rattle.drawing.specs.Fault.{mostObjects, mostConstraints, objectFault, constraintFault}
+use Rattle.limits.specs.Limits.{mostObjects, mostConstraints}
+use Rattle.drawing.specs.Fault.{objectFault, constraintFault}
 use Rattle.drawing.specs.Format.{bodyLength, object, constraint, recordAt}
 use Rattle.drawing.specs.Read.{Reading, unless, readFrom, read}
-use Rattle.drawing.specs.Arrays.{Arrays, listed, objectIn, constraintIn, drawingIn, ZeroFrom, Tidy}
+use Rattle.drawing.specs.Arrays.{Arrays, tabulated, objectIn, constraintIn, drawingIn, ZeroFrom, Tidy}
 use Rattle.drawing.proofs.Faults.{object-sound, constraint-sound}
 use Rattle.drawing.proofs.Listed.{listed-more}
 use Rattle.drawing.proofs.Stores.{below-store, store}
@@ -42,7 +43,7 @@ module _ (a : Arrays) (n m : ℕ) (t : Tidy n m a) where
   object-stored : (o : Object) → n < mostObjects → drawingIn (storeObject a n o) (n + 1) m ≡ withObject (drawingIn a n m) o
   unfolding drawingIn
   object-stored o room =
-      ap (λ (os : List Object). record { objects = os; constraints = listed m (constraintIn a) })
+      ap (λ (os : List Object). record { objects = os; constraints = tabulated m (constraintIn a) })
       (listed-more n (objectIn (storeObject a n o)) (objectIn a) o
       (λ i h. ap₂ (λ (k w : ℕ). record { kind = k; stated = w })
       (below-store (a .objectKinds) n (o .kind) i h) (below-store (a .objectStated) n (o .stated) i h))
@@ -86,7 +87,7 @@ module _ (a : Arrays) (n m : ℕ) (t : Tidy n m a) where
     constraint-stored : drawingIn (storeConstraint a m c) n (m + 1) ≡ withConstraint (drawingIn a n m) c
     unfolding drawingIn
     constraint-stored =
-        ap (λ (cs : List Constraint). record { objects = listed n (objectIn a); constraints = cs })
+        ap (λ (cs : List Constraint). record { objects = tabulated n (objectIn a); constraints = cs })
         (listed-more m (constraintIn (storeConstraint a m c)) (constraintIn a) c
         (λ i h. same (ends-below c (2 * i) (omega arith)) (ends-below c (2 * i + 1) (omega arith))
         (below-store (a .constraintKinds) m (c .kind) i h) (below-store (a .constraintStated) m (c .stated) i h))

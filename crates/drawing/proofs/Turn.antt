@@ -13,9 +13,9 @@ use Rattle.drawing.specs.Entry.{Drawing, kindOf}
 use Rattle.drawing.specs.Fault.{objectFault, constraintFault, objectFaultIn, constraintFaultIn}
 use Rattle.drawing.specs.Format.{bodyLength, Record, faulty, object, constraint, end, recordAt}
 use Rattle.drawing.specs.Read.{Reading, accepted, unless, behindFault, judged, readFrom, read}
-use Rattle.drawing.specs.Arrays.{Arrays, listed, drawingIn, Tidy, Blank, Held}
+use Rattle.drawing.specs.Arrays.{Arrays, tabulated, drawingIn, Tidy, Blank, ReadInto}
 use Rattle.drawing.proofs.Heads.{Says, says}
-use Rattle.drawing.proofs.Held.{as-refused}
+use Rattle.drawing.proofs.ReadInto.{as-refused}
 use Rattle.drawing.proofs.Listed.{objects-count, constraints-count, kind-is}
 
 -- reading stands at a position, with n objects and m constraints in the arrays
@@ -27,7 +27,7 @@ pub record Stands (s : List ℕ) (at n m : ℕ) (a : Arrays) : Type 0 where
   pub tidy : Tidy n m a
 
 pub starts : (s : List ℕ) (a : Arrays) → Blank a → Stands s 0 0 0 a
-unfolding read drawingIn listed
+unfolding read drawingIn tabulated
 starts s a b = record { within = zero-le; turns = suc (length s); enough = omega arith; so-far = refl; tidy = b }
 
 -- what the record at the position leads to
@@ -68,26 +68,26 @@ module _ (s : List ℕ) (at n m : ℕ) (a : Arrays) (st : Stands s at n m a) whe
   same-refusal : (f : ℕ) (x y : Reading) → (f ≡ 0 → ⊥) → unless f x ≡ unless f y
   same-refusal f x y h = sym (as-refused f x h) ∙ as-refused f y h
 
-  pub refuses-record : (f : ℕ) → faulty f ≡ recordAt s at → Held s f n m a
+  pub refuses-record : (f : ℕ) → faulty f ≡ recordAt s at → ReadInto s f n m a
   refuses-record f e =
       let l = leads (faulty f) e in
       record { reading = l .is ∙ as-refused f (accepted (drawingIn a n m)) (l .says-so); tidy = st .tidy }
 
-  refuses : (f g : ℕ) (x : Reading) → read s ≡ unless g x → g ≡ f → (f ≡ 0 → ⊥) → Held s f n m a
+  refuses : (f g : ℕ) (x : Reading) → read s ≡ unless g x → g ≡ f → (f ≡ 0 → ⊥) → ReadInto s f n m a
   refuses f g x e q h = record {
     reading = e ∙ ap (λ (k : ℕ). unless k x) q ∙ same-refusal f x (accepted (drawingIn a n m)) h;
     tidy = st .tidy;
   }
 
-  pub refuses-object : (o : Object) → object o ≡ recordAt s at → (f : ℕ) → f ≡ objectFault n m o → (f ≡ 0 → ⊥) → Held s f n m a
+  pub refuses-object : (o : Object) → object o ≡ recordAt s at → (f : ℕ) → f ≡ objectFault n m o → (f ≡ 0 → ⊥) → ReadInto s f n m a
   refuses-object o e f q h = refuses f _ _ (leads (object o) e .is) (object-judged o ∙ sym q) h
 
   pub refuses-constraint : (c : Constraint) → constraint c ≡ recordAt s at → (f : ℕ)
-      → f ≡ constraintFault n m (getD (a .objectKinds) (c .first) 0) (getD (a .objectKinds) (c .second) 0) c → (f ≡ 0 → ⊥) → Held s f n m a
+      → f ≡ constraintFault n m (getD (a .objectKinds) (c .first) 0) (getD (a .objectKinds) (c .second) 0) c → (f ≡ 0 → ⊥) → ReadInto s f n m a
   refuses-constraint c e f q h = refuses f _ _ (leads (constraint c) e .is) (constraint-judged c ∙ sym q) h
 
   -- the end record ends it too
-  pub at-end : end ≡ recordAt s at → (f : ℕ) → f ≡ behindFault s (at + 4) → Held s f n m a
+  pub at-end : end ≡ recordAt s at → (f : ℕ) → f ≡ behindFault s (at + 4) → ReadInto s f n m a
   unfolding bodyLength pick
   at-end e f q = record {
     reading = leads end e .is
@@ -96,6 +96,6 @@ module _ (s : List ℕ) (at n m : ℕ) (a : Arrays) (st : Stands s at n m a) whe
   }
 
 -- what `ended` answers
-pub as-ended : (s : List ℕ) (f n m : ℕ) (a : Arrays) (r : Counts) → r ≡ record { code = f; objects = n; constraints = m } → Held s f n m a
-    → Held s (r .code) (r .objects) (r .constraints) a
-as-ended s f n m a r e h = subst (λ (x : Counts). Held s (x .code) (x .objects) (x .constraints) a) (sym e) h
+pub as-ended : (s : List ℕ) (f n m : ℕ) (a : Arrays) (r : Counts) → r ≡ record { code = f; objects = n; constraints = m } → ReadInto s f n m a
+    → ReadInto s (r .code) (r .objects) (r .constraints) a
+as-ended s f n m a r e h = subst (λ (x : Counts). ReadInto s (x .code) (x .objects) (x .constraints) a) (sym e) h

@@ -7,10 +7,10 @@ use Rattle.drawing.specs.declared.Object.{Object}
 use Rattle.drawing.specs.declared.Constraint.{Constraint}
 use Rattle.drawing.specs.Table.{objectTable, tableWeight}
 use Rattle.drawing.specs.Entry.{kindOf}
-use Rattle.drawing.specs.Fault.{mostObjects, mostConstraints}
+use Rattle.limits.specs.Limits.{mostObjects, mostConstraints}
 use Rattle.drawing.specs.Weight.{inForce, objectWeight, constraintWeight}
 use Rattle.drawing.specs.Arrays.{Arrays, drawingIn, Tidy}
-use Rattle.drawing.specs.Weighed.{Filled, objectValue, constraintValue, Weighed}
+use Rattle.drawing.specs.WeightArrays.{Filled, objectValue, constraintValue, WeightsIn}
 use Rattle.drawing.proofs.Listed.{object-is, constraint-is, kind-is}
 
 module _ (a : Arrays) (n m : ℕ) (t : Tidy n m a) where
@@ -31,7 +31,7 @@ module _ (a : Arrays) (n m : ℕ) (t : Tidy n m a) where
 
   pub weighed : (os cs : List ℕ) → Filled mostObjects n (objectValue (a .objectKinds) (a .objectStated)) os
       → Filled mostConstraints m (constraintValue (a .ends) (a .objectKinds) (a .constraintKinds) (a .constraintStated)) cs
-      → Weighed a n m os cs
+      → WeightsIn a n m os cs
   weighed os cs p q = record {
     object-weights = record { values = λ i h. p .values i h ∙ object-value i h; past = p .past };
     constraint-weights = record { values = λ e h. q .values e h ∙ constraint-value e h; past = q .past };

@@ -7,7 +7,7 @@ use Rattle.drawing.specs.declared.Object.{Object}
 use Rattle.drawing.specs.declared.Constraint.{Constraint}
 use Rattle.drawing.specs.declared.Entries.{Entries}
 use Rattle.drawing.specs.Entry.{Drawing}
-use Rattle.drawing.specs.Fault.{mostObjects, mostConstraints}
+use Rattle.limits.specs.Limits.{mostObjects, mostConstraints}
 use Rattle.drawing.specs.Read.{accepted, unless, read}
 
 pub record Arrays : Type 0 where
@@ -27,9 +27,9 @@ arraysOf r = record {
 }
 
 -- f 0, f 1, .. f (k - 1)
-unfoldable pub listed : {A : Type 0} → ℕ → (ℕ → A) → List A
-listed zero f = []
-listed (suc k) f = listed k f ++ (f k ∷ [])
+unfoldable pub tabulated : {A : Type 0} → ℕ → (ℕ → A) → List A
+tabulated zero f = []
+tabulated (suc k) f = tabulated k f ++ (f k ∷ [])
 
 -- object i and constraint e of the arrays: constraint e has its ends at 2e and 2e + 1
 abbrev pub objectIn : Arrays → ℕ → Object
@@ -45,7 +45,7 @@ constraintIn a e = record {
 
 -- the drawing of n objects and m constraints in the arrays
 unfoldable pub drawingIn : Arrays → ℕ → ℕ → Drawing
-drawingIn a n m = record { objects = listed n (objectIn a); constraints = listed m (constraintIn a) }
+drawingIn a n m = record { objects = tabulated n (objectIn a); constraints = tabulated m (constraintIn a) }
 
 -- an array of a length that is zero from index k on
 pub record ZeroFrom (long k : ℕ) (l : List ℕ) : Type 0 where
@@ -67,7 +67,7 @@ abbrev pub Blank : Arrays → Type 0
 Blank a = Tidy 0 0 a
 
 -- the bytes read: refused with the code, or, at code 0, accepted with the drawing in the arrays
-pub record Held (s : List ℕ) (code n m : ℕ) (a : Arrays) : Type 0 where
+pub record ReadInto (s : List ℕ) (code n m : ℕ) (a : Arrays) : Type 0 where
   pub reading : read s ≡ unless code (accepted (drawingIn a n m))
   pub tidy : Tidy n m a
 

@@ -9,16 +9,7 @@ use Rattle.drawing.specs.Table.{objectKind, tableWeight}
 use Rattle.drawing.specs.declared.Object.{Object}
 use Rattle.drawing.specs.declared.Constraint.{Constraint}
 use Rattle.drawing.specs.Entry.{Drawing, kindOf}
-
--- "Bounds: 0 to 128 objects, 0 to 512 constraints, weights 1 to 15"
-abbrev pub mostObjects : ℕ
-mostObjects = 128
-
-abbrev pub mostConstraints : ℕ
-mostConstraints = 512
-
-abbrev pub mostStated : ℕ
-mostStated = 15
+use Rattle.limits.specs.Limits.{mostObjects, mostConstraints, mostWeight}
 
 -- an object after n objects and m constraints
 unfoldable pub objectFault : ℕ → ℕ → Object → ℕ
@@ -26,7 +17,7 @@ objectFault n m o =
     pick (ltb 0 m) 4  -- "an object after a constraint"
     (pick (leb mostObjects n) 5  -- "the 129th object"
     (pick (not (objectKind (o .kind))) 6  -- "unknown object kind"
-    (pick (ltb mostStated (o .stated)) 7  -- "stated weight above 15"
+    (pick (ltb mostWeight (o .stated)) 7  -- "stated weight above 15"
     0)))
 
 -- a constraint after n objects and m constraints, where a and b are the kinds of the objects that its ends name
@@ -37,7 +28,7 @@ constraintFault n m a b c =
     (pick (leb n (c .second)) 8
     (pick (eqb (c .first) (c .second)) 8  -- "or both ends the same"
     (pick (eqb (tableWeight (c .kind) a b) 0) 6  -- "a constraint the table does not allow between these objects"
-    (pick (ltb mostStated (c .stated)) 7  -- "stated weight above 15"
+    (pick (ltb mostWeight (c .stated)) 7  -- "stated weight above 15"
     0)))))
 
 -- the same after what has been read

@@ -8,5 +8,5 @@ pub mod Read
 pub mod Weight
 pub mod Sound
 pub mod Arrays
-pub mod Weighed
+pub mod WeightArrays
 pub mod Samples

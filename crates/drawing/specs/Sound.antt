@@ -7,19 +7,19 @@ use Rattle.drawing.specs.declared.Object.{Object}
 use Rattle.drawing.specs.declared.Constraint.{Constraint}
 use Rattle.drawing.specs.Table.{objectKind, tableWeight}
 use Rattle.drawing.specs.Entry.{Drawing, objectAt, constraintAt, kindOf}
-use Rattle.drawing.specs.Fault.{mostObjects, mostConstraints, mostStated}
+use Rattle.limits.specs.Limits.{mostObjects, mostConstraints, mostWeight}
 
 -- an object on its own, and a constraint between n objects, where a and b are the kinds of those that its ends name
 pub record SoundObject (o : Object) : Type 0 where
   pub known : objectKind (o .kind) ≡ true
-  pub small : o .stated ≤ mostStated
+  pub small : o .stated ≤ mostWeight
 
 pub record SoundConstraint (n a b : ℕ) (c : Constraint) : Type 0 where
   pub first-is : c .first < n
   pub second-is : c .second < n
   pub apart : c .first ≡ c .second → ⊥
   pub in-table : 0 < tableWeight (c .kind) a b
-  pub small : c .stated ≤ mostStated
+  pub small : c .stated ≤ mostWeight
 
 -- an object or a constraint that may come after n objects and m constraints
 pub record NextObject (n m : ℕ) (o : Object) : Type 0 where
@@ -42,4 +42,4 @@ pub record SoundDrawing (d : Drawing) : Type 0 where
 -- 01, 'What it covers': "weights 1 to 15"
 pub record Weight (w : ℕ) : Type 0 where
   pub least : 1 ≤ w
-  pub most : w ≤ mostStated
+  pub most : w ≤ mostWeight

@@ -1,9 +1,9 @@
 // Arrays of zeros, in which a drawing is read and weighed.
-use crate::CONSTRAINTS;
-use crate::ENDS;
-use crate::OBJECTS;
+use limits::CONSTRAINTS;
+use limits::ENDS;
+use limits::OBJECTS;
 ghost use Prim.Native.Nat.{_*_};
-ghost use Rattle.drawing.specs.Fault.{mostObjects, mostConstraints};
+ghost use Rattle.limits.specs.Limits.{mostObjects, mostConstraints};
 ghost use Rattle.drawing.specs.Arrays.{ZeroFrom};
 
 // The ends of no constraint.

@@ -1,15 +1,13 @@
 // What is wrong with an entry, judged on its values: the fault's number, or 0.
-use crate::CONSTRAINTS;
 use crate::Constraint;
-use crate::OBJECTS;
 use crate::Object;
 use crate::table::object_kind;
 use crate::table::table_weight;
+use limits::CONSTRAINTS;
+use limits::OBJECTS;
+use limits::WEIGHT;
 ghost use mathlib.Core.Path.{_≡_};
 ghost use Rattle.drawing.specs.Fault.{objectFault, constraintFault};
-
-// The largest stated weight.
-const STATED: u8 = 15;
 
 // An object after so many objects and constraints.
 pub fn object_fault(objects: usize, constraints: usize, o: Object) -> u32
@@ -24,7 +22,7 @@ pub fn object_fault(objects: usize, constraints: usize, o: Object) -> u32
     if !object_kind(o.kind) {
         return 6;
     }
-    if o.stated > STATED {
+    if o.stated > WEIGHT {
         return 7;
     }
     0
@@ -49,7 +47,7 @@ pub fn constraint_fault(objects: usize, constraints: usize, a: u8, b: u8, c: Con
     if table_weight(c.kind, a, b) == 0 {
         return 6;
     }
-    if c.stated > STATED {
+    if c.stated > WEIGHT {
         return 7;
     }
     0

@@ -9,18 +9,14 @@ pub mod weight;
 use blank::no_constraints;
 use blank::no_ends;
 use blank::no_objects;
+use limits::CONSTRAINTS;
+use limits::ENDS;
+use limits::OBJECTS;
 use reader::fill;
 use weight::weigh_constraints;
 use weight::weigh_objects;
-ghost use Rattle.drawing.specs.Arrays.{Held, Tidy, arraysOf};
-ghost use Rattle.drawing.specs.Weighed.{Weighed};
-
-// The largest drawing: objects, constraints, and the two ends of each constraint.
-pub const OBJECTS: usize = 128;
-
-pub const CONSTRAINTS: usize = 512;
-
-pub const ENDS: usize = 2 * CONSTRAINTS;
+ghost use Rattle.drawing.specs.Arrays.{ReadInto, Tidy, arraysOf};
+ghost use Rattle.drawing.specs.WeightArrays.{WeightsIn};
 
 // An object as read.
 pub struct Object {
@@ -65,7 +61,7 @@ pub struct Entries {
 
 // Reads a drawing.
 pub fn read(bytes: &[u8]) -> Entries
-    ensures { λ r. ⌜ Held (now (bytes .entry)) (r .code) (r .objects) (r .constraints) (arraysOf r) ⌝ }
+    ensures { λ r. ⌜ ReadInto (now (bytes .entry)) (r .code) (r .objects) (r .constraints) (arraysOf r) ⌝ }
 {
     let mut ends = no_ends();
     let mut object_kinds = no_objects();
@@ -101,7 +97,7 @@ pub struct Weights {
 // Weighs a drawing that was read.
 pub fn weigh(e: Entries) -> Weights
     requires { ⌜ Tidy (e .objects) (e .constraints) (arraysOf e) ⌝ }
-    ensures { λ r. ⌜ Weighed (arraysOf e) (e .objects) (e .constraints) (r .objects) (r .constraints) ⌝ }
+    ensures { λ r. ⌜ WeightsIn (arraysOf e) (e .objects) (e .constraints) (r .objects) (r .constraints) ⌝ }
 {
     let ends = e.ends;
     let object_kinds = e.object_kinds;

@@ -1,19 +1,19 @@
 // Reading a drawing, record by record.
-use crate::CONSTRAINTS;
 use crate::Counts;
-use crate::ENDS;
 use crate::Found;
-use crate::OBJECTS;
 use crate::fault::constraint_fault;
 use crate::fault::object_fault;
 use crate::format::CONSTRAINT_BODY;
 use crate::format::HEAD;
 use crate::format::OBJECT_BODY;
 use crate::format::record_at;
+use limits::CONSTRAINTS;
+use limits::ENDS;
+use limits::OBJECTS;
 ghost use mathlib.Core.Path.{_≡_};
 ghost use lib.ListN.{length, getD};
-ghost use Rattle.drawing.specs.Fault.{mostObjects};
-ghost use Rattle.drawing.specs.Arrays.{Blank, Held};
+ghost use Rattle.limits.specs.Limits.{mostObjects};
+ghost use Rattle.drawing.specs.Arrays.{Blank, ReadInto};
 ghost use Rattle.drawing.specs.Read.{behindFault};
 
 // The bytes of an object record, a constraint record and an end record.
@@ -51,7 +51,7 @@ pub fn fill(
       constraintKinds = now «constraint_kinds»;
       constraintStated = now «constraint_stated»;
     }) ⌝ }
-    ensures { λ r. ⌜ Held (now (s .entry)) (r .code) (r .objects) (r .constraints) (record {
+    ensures { λ r. ⌜ ReadInto (now (s .entry)) (r .code) (r .objects) (r .constraints) (record {
       ends = now (ends .exit);
       objectKinds = now («object_kinds» .exit);
       objectStated = now («object_stated» .exit);

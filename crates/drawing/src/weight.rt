@@ -1,16 +1,16 @@
 // The weights in force: the stated weight in the place of the table weight.
-use crate::CONSTRAINTS;
-use crate::ENDS;
-use crate::OBJECTS;
 use crate::reader::kind_of;
 use crate::table::object_table;
 use crate::table::table_weight;
+use limits::CONSTRAINTS;
+use limits::ENDS;
+use limits::OBJECTS;
 ghost use mathlib.Core.Path.{_≡_};
 ghost use Prim.Native.Nat.{_≤_};
 ghost use lib.ListN.{length};
-ghost use Rattle.drawing.specs.Fault.{mostObjects, mostConstraints};
+ghost use Rattle.limits.specs.Limits.{mostObjects, mostConstraints};
 ghost use Rattle.drawing.specs.Weight.{inForce};
-ghost use Rattle.drawing.specs.Weighed.{Filled, objectValue, constraintValue};
+ghost use Rattle.drawing.specs.WeightArrays.{Filled, objectValue, constraintValue};
 ghost use Rattle.drawing.specs.Arrays.{ZeroFrom};
 
 // The stated weight, or the table weight where none is stated.

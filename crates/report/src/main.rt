@@ -1,14 +1,14 @@
 // The report: reads a drawing on standard input and prints its counts, the top density and the members of each constraint's answer set,
 // and whether any set is dense at K = -3; or the number of its refusal. What is printed is held to stored output, and not proved.
 use counter::range::is_above;
-use drawing::CONSTRAINTS;
-use drawing::ENDS;
-use drawing::OBJECTS;
 use libc::STDOUT_FILENO;
+use limits::CONSTRAINTS;
+use limits::ENDS;
+use limits::OBJECTS;
 use routes::answer::answer;
 use routes::answer::base;
 ghost use Prim.Native.Nat.{_≤_, _<_};
-ghost use Rattle.routes.specs.Limits.{objectLimit};
+ghost use Rattle.limits.specs.Limits.{mostObjects};
 ghost use Rattle.counter.specs.Counting.{Countable};
 
 // 01: "6,000 bytes at most; that prefix gives every longer input its refusal".
@@ -89,7 +89,7 @@ fn say_density(above: usize, below: usize) {
 
 // The members of a set, ascending.
 fn say_members(n: usize, set: &[u8; OBJECTS])
-    requires { ⌜ n ≤ objectLimit ⌝ }
+    requires { ⌜ n ≤ mostObjects ⌝ }
 {
     let mut v: usize = 0;
     while v < n {

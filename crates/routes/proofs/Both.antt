@@ -7,8 +7,9 @@ use Prim.Native.Nat.{ℕ, _+_, _*_, _/_, _<_, _≤_}
 use native.Mathlib.Omega.{arith}
 use lib.ListN.{length}
 use lib.Dec.{T}
-use Rattle.routes.specs.Limits.{at, Marked, objectLimit, constraintLimit}
-use Rattle.routes.specs.State.{State, Grown, Holds, unmarked}
+use Rattle.limits.specs.Limits.{mostObjects, mostConstraints}
+use Rattle.routes.specs.At.{at, Marked}
+use Rattle.routes.specs.State.{State, Grown, BothIn, unmarked}
 use Rattle.routes.specs.Search.{ReadyObject, ReadyConstraint, Stuck, Moved, FromObject, FromConstraint}
 use Rattle.routes.proofs.Small.{same-or-not, no-true}
 use Rattle.routes.proofs.Marking.{mark-constraint, grown-then, grown-constraint, sized-constraint, unmarked-constraint, unmarked-le, marked-here}
@@ -22,7 +23,7 @@ module _ {m e : ℕ} {ends head next : List ℕ} {s : State} (ready : ReadyConst
   e-long : e < length (s .constraints)
   e-long = omega (arith, ready .is, ready .ready .wired .few, ready .ready .sized .constraints)
 
-  pub both-small : e < constraintLimit
+  pub both-small : e < mostConstraints
   both-small = omega (arith, ready .is, ready .ready .wired .few)
 
   pub both-falls : unmarked m marked < unmarked m s
@@ -38,7 +39,7 @@ module _ {m e : ℕ} {ends head next : List ℕ} {s : State} (ready : ReadyConst
     pub first-counts : one + 1 + unmarked m t ≡ unmarked m s
     first-counts = omega (arith, after .searched .counts, unmarked-constraint m s e (ready .ready .sized) (ready .is) e-long (ready .clear))
 
-    pub first-small : one + 1 ≤ objectLimit + constraintLimit
+    pub first-small : one + 1 ≤ mostObjects + mostConstraints
     first-small = omega (arith, first-counts, unmarked-le m s, ready .ready .wired .few)
 
     pub first-falls : unmarked m t < unmarked m s
@@ -79,15 +80,15 @@ module _ {m e : ℕ} {ends head next : List ℕ} {s : State} (ready : ReadyConst
       pub both-counts : two + (one + 1) + unmarked m u ≡ unmarked m s
       both-counts = omega (arith, first-counts, last .searched .counts)
 
-      pub both-count-small : two + (one + 1) ≤ objectLimit + constraintLimit
+      pub both-count-small : two + (one + 1) ≤ mostObjects + mostConstraints
       both-count-small = omega (arith, both-counts, unmarked-le m s, ready .ready .wired .few)
 
-      both-stuck : found ≡ false → found′ ≡ false → Stuck m ends (λ S. Holds ends S e) s u
+      both-stuck : found ≡ false → found′ ≡ false → Stuck m ends (λ S. BothIn ends S e) s u
       both-stuck failed failed′ =
-          stuck-constraint m e ends (λ S. Holds ends S e) s u
-          (stuck-then m ends (λ S. Holds ends S e) marked t u (last .searched .grown)
-          (stuck-from m ends (λ S. T (S (at ends (2 * e)))) (λ S. Holds ends S e) marked t (λ S h. h (2 * e) (omega arith)) (after .searched .stuck failed))
-          (stuck-from m ends (λ S. T (S (at ends (2 * e + 1)))) (λ S. Holds ends S e) t u (λ S h. h (2 * e + 1) (omega arith)) (last .searched .stuck failed′)))
+          stuck-constraint m e ends (λ S. BothIn ends S e) s u
+          (stuck-then m ends (λ S. BothIn ends S e) marked t u (last .searched .grown)
+          (stuck-from m ends (λ S. T (S (at ends (2 * e)))) (λ S. BothIn ends S e) marked t (λ S h. h (2 * e) (omega arith)) (after .searched .stuck failed))
+          (stuck-from m ends (λ S. T (S (at ends (2 * e + 1)))) (λ S. BothIn ends S e) t u (λ S h. h (2 * e + 1) (omega arith)) (last .searched .stuck failed′)))
           (λ i q. ⊎-elim
           (λ h. subst (λ (x : ℕ). Marked (u .objects) (at ends x)) (sym h) (last .searched .grown .objects (at ends (2 * e)) (after .here failed)))
           (λ n. let h : 2 * e + 1 ≡ i = omega arith in subst (λ (x : ℕ). Marked (u .objects) (at ends x)) h (last .here failed′))

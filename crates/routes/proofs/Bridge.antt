@@ -12,16 +12,17 @@ use Rattle.density.specs.Net.{Net, Proper, Set, Side, first, second, holds, Ins
 use Rattle.density.specs.Sheet as theory
 use Rattle.density.specs.Sheet.{Sound, claim}
 use Rattle.density.specs.Closed.{Closed, Full}
-use Rattle.density.specs.Top.{Answer}
+use Rattle.density.specs.Top.{AnswerSet}
 use Rattle.density.proofs.Tests.{and-left, and-right, and-both}
 use Rattle.density.proofs.Integers.{eq-of-cross}
 use Rattle.density.proofs.Shares.{claim-is, least-closed-answers}
-use Rattle.routes.specs.Limits.{at, Marked, objectLimit, weightLimit}
-use Rattle.routes.specs.State.{State, state, Holds, total, load}
+use Rattle.limits.specs.Limits.{mostObjects, mostWeight}
+use Rattle.routes.specs.At.{at, Marked}
+use Rattle.routes.specs.State.{State, state, BothIn, bothShares, load}
 use Rattle.routes.specs.Kept.{Settling, Settled}
 use Rattle.routes.specs.Release.{Releasing, Released}
-use Rattle.routes.specs.Arrays.{place, net, sheet, members, Fair}
-use Rattle.routes.specs.Answered.{AskedFor, Answered, Summing, Remains}
+use Rattle.routes.specs.Arrays.{place, netIn, sharesIn, members, Fair}
+use Rattle.routes.specs.Solved.{AskedFor, Solved, Summing, Remains}
 use Rattle.routes.proofs.Small.{same-or-not, zero-or-some}
 use Rattle.routes.proofs.Sums.{sum-pairs}
 use Rattle.routes.proofs.Places.{share-le-load}
@@ -42,14 +43,14 @@ by-side : (P : ℕ → Type 0) (k : ℕ) → ((i : Side) → k ≡ place i (k / 
 by-side P k h = ⊎-elim (λ e. h first e) (λ n. h second (omega arith)) (same-or-not k (2 * (k / 2)))
 
 -- a set that holds e has both its ends, and a set that has both holds it
-holds-both : (n m : ℕ) (ends weights takes : List ℕ) (S : Set) (e : ℕ) → T (holds (net n m ends weights takes) S e) → Holds ends S e
+holds-both : (n m : ℕ) (ends weights takes : List ℕ) (S : Set) (e : ℕ) → T (holds (netIn n m ends weights takes) S e) → BothIn ends S e
 holds-both n m ends weights takes S e h i q =
     ⊎-elim
     (λ y. subst (λ (x : ℕ). T (S (at ends x))) (sym y) (and-left (S (at ends (2 * e))) (S (at ends (2 * e + 1))) h))
     (λ d. let y : 2 * e + 1 ≡ i = omega arith in subst (λ (x : ℕ). T (S (at ends x))) y (and-right (S (at ends (2 * e))) (S (at ends (2 * e + 1))) h))
     (same-or-not i (2 * e))
 
-both-holds : (n m : ℕ) (ends weights takes : List ℕ) (S : Set) (e : ℕ) → Holds ends S e → T (holds (net n m ends weights takes) S e)
+both-holds : (n m : ℕ) (ends weights takes : List ℕ) (S : Set) (e : ℕ) → BothIn ends S e → T (holds (netIn n m ends weights takes) S e)
 both-holds n m ends weights takes S e h = and-both (S (at ends (2 * e))) (S (at ends (2 * e + 1))) (h (2 * e) (omega arith)) (h (2 * e + 1) (omega arith))
 
 member : (objects : List ℕ) (v : ℕ) → Marked objects v → T (members objects v)
@@ -59,11 +60,11 @@ member-marked : (objects : List ℕ) (v : ℕ) → T (members objects v) → Mar
 member-marked objects v h = ltb→lt 0 (at objects v) h
 
 -- what the theory says an object receives is its load
-received-is : (n m : ℕ) (ends weights takes shares : List ℕ) (v : ℕ) → theory.received (net n m ends weights takes) (sheet shares) v ≡ load m ends shares v
+received-is : (n m : ℕ) (ends weights takes shares : List ℕ) (v : ℕ) → theory.received (netIn n m ends weights takes) (sharesIn shares) v ≡ load m ends shares v
 unfolding theory.received load
 received-is n m ends weights takes shares v = sym (sum-pairs m (λ i. counted (eqb (at ends i) v) (at shares i)))
 
-proper : (n m : ℕ) (ends weights takes : List ℕ) → Fair n m ends weights takes → Proper (net n m ends weights takes)
+proper : (n m : ℕ) (ends weights takes : List ℕ) → Fair n m ends weights takes → Proper (netIn n m ends weights takes)
 proper n m ends weights takes fair = record {
   named = λ i e b. fair .named (place i e) (place-below m i e b);
   apart = fair .apart;
@@ -75,7 +76,7 @@ proper n m ends weights takes fair = record {
 module _ {n m c : ℕ} {ends weights takes head next : List ℕ} {s : State} (ask : AskedFor n m c ends weights takes head next s)
     {one two : ℕ} (one-is : one ≡ at ends (2 * c)) (two-is : two ≡ at ends (2 * c + 1)) where
   abbrev d : Net
-  d = net n m ends weights takes
+  d = netIn n m ends weights takes
 
   one-object : one < n
   one-object = omega (arith, one-is, ask .fair .named (2 * c) (omega (arith, ask .is)))
@@ -83,13 +84,13 @@ module _ {n m c : ℕ} {ends weights takes head next : List ℕ} {s : State} (as
   two-object : two < n
   two-object = omega (arith, two-is, ask .fair .named (2 * c + 1) (omega (arith, ask .is)))
 
-  pub one-small : one < objectLimit
+  pub one-small : one < mostObjects
   one-small = omega (arith, one-object, ask .fair .few-objects)
 
-  pub two-small : two < objectLimit
+  pub two-small : two < mostObjects
   two-small = omega (arith, two-object, ask .fair .few-objects)
 
-  pub ends-light : at weights one + at weights two ≤ weightLimit + weightLimit
+  pub ends-light : at weights one + at weights two ≤ mostWeight + mostWeight
   ends-light = omega (arith, ask .fair .light-objects one one-object, ask .fair .light-objects two two-object)
 
   apart : one ≢ two
@@ -158,10 +159,10 @@ module _ {n m c : ℕ} {ends weights takes head next : List ℕ} {s : State} (as
         load-ends first = subst (λ (x : ℕ). load m ends (t .shares) x ≡ 0) one-is load-one
         load-ends second = subst (λ (x : ℕ). load m ends (t .shares) x ≡ 0) two-is load-two
 
-        received-of : (v : ℕ) → theory.received d (sheet (t .shares)) v ≡ load m ends (t .shares) v
+        received-of : (v : ℕ) → theory.received d (sharesIn (t .shares)) v ≡ load m ends (t .shares) v
         received-of v = received-is n m ends weights takes (t .shares) v
 
-        sound : Sound d c (sheet (t .shares))
+        sound : Sound d c (sharesIn (t .shares))
         sound = record {
           fits = settled .kept .fits;
           room = λ v b. omega (arith, received-of v, load-le v);
@@ -183,7 +184,7 @@ module _ {n m c : ℕ} {ends weights takes head next : List ℕ} {s : State} (as
         held-marked : (e : ℕ) → e < m → Marked (t .constraints) e → T (holds d M e)
         held-marked e b h = both-holds n m ends weights takes M e (λ i q. member (t .objects) (at ends i) (settled .kept .closed e b h i q))
 
-        closed : Closed d (sheet (t .shares)) M
+        closed : Closed d (sharesIn (t .shares)) M
         closed = record {
           starts = λ e b l. held-marked e b (settled .all e b l);
           goes-on = λ i e b inside p. held-marked e b
@@ -191,7 +192,7 @@ module _ {n m c : ℕ} {ends weights takes head next : List ℕ} {s : State} (as
               (settled .kept .goes-on (place i e) (place-below m i e b) (member-marked (t .objects) (at ends (place i e)) inside) p));
         }
 
-        full : Full d c (sheet (t .shares)) M
+        full : Full d c (sharesIn (t .shares)) M
         full v b inside p q = omega (
           arith,
           received-of v,
@@ -199,10 +200,10 @@ module _ {n m c : ℕ} {ends weights takes head next : List ℕ} {s : State} (as
           settled .kept .full v (member-marked (t .objects) v inside),
         )
 
-        least : (S : Set) → T (holds d S c) → Closed d (sheet (t .shares)) S → Inside d M S
+        least : (S : Set) → T (holds d S c) → Closed d (sharesIn (t .shares)) S → Inside d M S
         least S h closed-S v b inside = settled .kept .least S
             (λ e l y left. holds-both n m ends weights takes S e (closed-S .starts e l left))
-            (λ k l y in-S p. by-side (λ x. x ≡ k → Holds ends S (k / 2)) k
+            (λ k l y in-S p. by-side (λ x. x ≡ k → BothIn ends S (k / 2)) k
             (λ i e _. holds-both n m ends weights takes S (k / 2)
             (closed-S .goes-on i (k / 2) (omega arith)
             (subst (λ (x : ℕ). T (S (at ends x))) e in-S)
@@ -218,25 +219,25 @@ module _ {n m c : ℕ} {ends weights takes head next : List ℕ} {s : State} (as
         outside-clear : (v : ℕ) → n ≤ v → at (t .objects) v ≡ 0
         outside-clear v b = ⊎-elim (λ z. z) (λ h. absurd (omega (arith, inside-n v h))) (zero-or-some (at (t .objects) v))
 
-        side-light : (i : Side) (e : ℕ) → e < m → at (t .shares) (place i e) ≤ weightLimit
+        side-light : (i : Side) (e : ℕ) → e < m → at (t .shares) (place i e) ≤ mostWeight
         side-light first e b = omega (arith, settled .kept .fits e b, ask .fair .light-constraints e b)
         side-light second e b = omega (arith, settled .kept .fits e b, ask .fair .light-constraints e b)
 
-        share-light : (k : ℕ) → k < 2 * m → at (t .shares) k ≤ weightLimit
-        share-light k b = by-side (λ x. at (t .shares) x ≤ weightLimit) k
-            (λ i e. subst (λ (x : ℕ). at (t .shares) x ≤ weightLimit) (sym e) (side-light i (k / 2) (omega arith)))
+        share-light : (k : ℕ) → k < 2 * m → at (t .shares) k ≤ mostWeight
+        share-light k b = by-side (λ x. at (t .shares) x ≤ mostWeight) k
+            (λ i e. subst (λ (x : ℕ). at (t .shares) x ≤ mostWeight) (sym e) (side-light i (k / 2) (omega arith)))
 
         module _ {above below : ℕ} (remains : Remains m takes (t .shares) above) (weigh : below ≡ at weights one + at weights two) where
-          claim-above : claim d c (sheet (t .shares)) ≡ subℕ above below
+          claim-above : claim d c (sharesIn (t .shares)) ≡ subℕ above below
           unfolding theory.total theory.given
-          claim-above = claim-is d c (sheet (t .shares))
-              ∙ eq-of-cross (theory.total d) (theory.given d (sheet (t .shares)) + theory.ends-weigh d c) above below
+          claim-above = claim-is d c (sharesIn (t .shares))
+              ∙ eq-of-cross (theory.total d) (theory.given d (sharesIn (t .shares)) + theory.ends-weigh d c) above below
               (omega (arith, remains .is, weigh, ap (λ (x : ℕ). at weights x) one-is, ap (λ (x : ℕ). at weights x) two-is))
 
-          pub answered : Answered n m c ends weights takes (t .objects) (t .shares) above below
+          pub answered : Solved n m c ends weights takes (t .objects) (t .shares) above below
           answered = record {
-            answer = subst (λ (z : ℤ). Answer d c z M) claim-above
-                (least-closed-answers d (proper n m ends weights takes (ask .fair)) c (ask .is) (sheet (t .shares)) sound M
+            answer = subst (λ (z : ℤ). AnswerSet d c z M) claim-above
+                (least-closed-answers d (proper n m ends weights takes (ask .fair)) c (ask .is) (sharesIn (t .shares)) sound M
                 (held-marked c (ask .is) c-marked) closed full least);
             sound = sound;
             claims = claim-above;

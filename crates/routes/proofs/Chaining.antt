@@ -5,25 +5,26 @@ use mathlib.Core.List.{List}
 use Prim.Native.Nat.{ℕ, _+_, _-_, _*_, _<_, _≤_}
 use native.Mathlib.Omega.{arith}
 use lib.ListN.{length, set, length-set, replicate, length-replicate, getD-replicate}
-use Rattle.routes.specs.Limits.{at, objectLimit, placeLimit}
+use Rattle.limits.specs.Limits.{mostObjects, mostEnds}
+use Rattle.routes.specs.At.{at}
 use Rattle.routes.specs.Wires.{Last, Named, Wired}
 use Rattle.routes.proofs.Small.{same-or-not}
 use Rattle.routes.proofs.Places.{at-set-here, at-set-off}
 
 -- the places below i are chained
 pub record Chaining (m : ℕ) (ends head next : List ℕ) (i : ℕ) : Type 0 where
-  pub head-long : length head ≡ objectLimit
-  pub next-long : length next ≡ placeLimit
+  pub head-long : length head ≡ mostObjects
+  pub next-long : length next ≡ mostEnds
   pub within : i ≤ 2 * m
-  pub heads : (v : ℕ) → v < objectLimit → Last ends v i (at head v)
+  pub heads : (v : ℕ) → v < mostObjects → Last ends v i (at head v)
   pub nexts : (k : ℕ) → k < i → Last ends (at ends k) k (at next k)
 
-pub chain-start : (m : ℕ) (ends : List ℕ) → Chaining m ends (replicate objectLimit 0) (replicate placeLimit 0) 0
+pub chain-start : (m : ℕ) (ends : List ℕ) → Chaining m ends (replicate mostObjects 0) (replicate mostEnds 0) 0
 chain-start m ends = record {
-  head-long = length-replicate objectLimit (zero-of objectLimit);
-  next-long = length-replicate placeLimit (zero-of placeLimit);
+  head-long = length-replicate mostObjects (zero-of mostObjects);
+  next-long = length-replicate mostEnds (zero-of mostEnds);
   within = omega arith;
-  heads = λ v b. subst (λ (p : ℕ). Last ends v 0 p) (sym (getD-replicate objectLimit v (zero-of v) 0 b))
+  heads = λ v b. subst (λ (p : ℕ). Last ends v 0 p) (sym (getD-replicate mostObjects v (zero-of v) 0 b))
       (record { within = omega arith; there = λ h. absurd (omega arith); none-after = λ q a b. absurd (omega arith) });
   nexts = λ k b. absurd (omega arith);
 }
@@ -34,7 +35,7 @@ chain-start m ends = record {
 pub chain-turn : {m : ℕ} {ends head next : List ℕ} {i v : ℕ} → Named m ends → Chaining m ends head next i → i < 2 * m → v ≡ at ends i
     → Chaining m ends (set head v (i + 1)) (set next i (at head v)) (i + 1)
 chain-turn {m} {ends} {head} {next} {i} {v} named h b is =
-    let v-small : v < objectLimit = omega (arith, named .named i b) in
+    let v-small : v < mostObjects = omega (arith, named .named i b) in
     let v-long : v < length head = omega (arith, h .head-long) in
     let i-long : i < length next = omega (arith, h .next-long, named .few) in
     record {

@@ -5,8 +5,8 @@ use mathlib.Core.List.{List}
 use mathlib.Core.Bool.{Bool, false}
 use Prim.Native.Nat.{ℕ, _-_, _*_, _/_, _<_, _≤_}
 use native.Mathlib.Omega.{arith}
-use Rattle.routes.specs.Limits.{at, Marked, Clear}
-use Rattle.routes.specs.State.{State, state, Sized, Grown, Holds, total, load}
+use Rattle.routes.specs.At.{at, Marked, Clear}
+use Rattle.routes.specs.State.{State, state, Sized, Grown, BothIn, bothShares, load}
 use Rattle.routes.specs.Search.{Stuck, Moved, FromConstraint}
 use Rattle.routes.specs.Kept.{Kept, Onward}
 use Rattle.routes.proofs.Small.{same-or-not, zero-or-some}
@@ -27,9 +27,9 @@ onward-then m ends takes s t u g h = record {
   done = λ e b d. h .done e b (g .done e b d);
 }
 
-module _ (m e : ℕ) (ends takes : List ℕ) (s u : State) (kept : Kept m ends takes s) (is : e < m) (left : total (s .shares) e < at takes e) where
+module _ (m e : ℕ) (ends takes : List ℕ) (s u : State) (kept : Kept m ends takes s) (is : e < m) (left : bothShares (s .shares) e < at takes e) where
   module _ (clear : Clear (s .constraints) e) (sized : Sized u) (moved : Moved m e ends s u) where
-    off : (x : ℕ) → Marked (s .constraints) x → total (u .shares) x ≡ total (s .shares) x
+    off : (x : ℕ) → Marked (s .constraints) x → bothShares (u .shares) x ≡ bothShares (s .shares) x
     off x h = omega (arith, moved .totals x, counted-off e x 1 (λ q. absurd (omega (arith, ap (λ (y : ℕ). at (s .constraints) y) q))))
 
     same-share : (k : ℕ) → k < 2 * m → Marked (s .objects) (at ends k) → 0 < at (u .shares) k → 0 < at (s .shares) k
@@ -40,7 +40,7 @@ module _ (m e : ℕ) (ends takes : List ℕ) (s u : State) (kept : Kept m ends t
       sized = record { objects = kept .sized .objects; constraints = kept .sized .constraints; shares = sized .shares; room = sized .room };
       bounded = bounded-moved m e ends s u (kept .bounded) moved;
       fits = λ x b. ⊎-elim
-          (λ q. subst (λ (y : ℕ). total (u .shares) y ≤ at takes y) q (omega (arith, moved .totals e, counted-here e e 1 refl)))
+          (λ q. subst (λ (y : ℕ). bothShares (u .shares) y ≤ at takes y) q (omega (arith, moved .totals e, counted-here e e 1 refl)))
           (λ n. omega (arith, moved .totals x, counted-off e x 1 n, kept .fits x b))
           (same-or-not e x);
       closed = kept .closed;
@@ -57,18 +57,18 @@ module _ (m e : ℕ) (ends takes : List ℕ) (s u : State) (kept : Kept m ends t
       done = λ x b d l. d (omega (arith, moved .totals x));
     }
 
-    pub moved-less : at takes e - total (u .shares) e < at takes e - total (s .shares) e
+    pub moved-less : at takes e - bothShares (u .shares) e < at takes e - bothShares (s .shares) e
     moved-less = omega (arith, moved .totals e, counted-here e e 1 refl)
 
   module _ (found : Bool) (count : ℕ) (after : FromConstraint m e ends s u found count) (failed : found ≡ false) where
-    stuck : Stuck m ends (λ S. Holds ends S e) s u
+    stuck : Stuck m ends (λ S. BothIn ends S e) s u
     stuck = after .searched .stuck failed
 
     grown : Grown s u
     grown = after .searched .grown
 
-    same-total : (x : ℕ) → total (u .shares) x ≡ total (s .shares) x
-    same-total x = ap (λ (l : List ℕ). total l x) (stuck .same-shares)
+    same-total : (x : ℕ) → bothShares (u .shares) x ≡ bothShares (s .shares) x
+    same-total x = ap (λ (l : List ℕ). bothShares l x) (stuck .same-shares)
 
     same-room : (v : ℕ) → at (u .room) v ≡ at (s .room) v
     same-room v = ap (λ (l : List ℕ). at l v) (stuck .same-room)

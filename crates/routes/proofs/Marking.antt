@@ -8,7 +8,8 @@ use lib.ListN.{length, set, length-set}
 use lib.Dec.{eqb}
 use Rattle.density.specs.Sum.{counted}
 use Rattle.density.proofs.Sums.{counted-le}
-use Rattle.routes.specs.Limits.{at, Marked, Clear, objectLimit}
+use Rattle.limits.specs.Limits.{mostObjects}
+use Rattle.routes.specs.At.{at, Marked, Clear}
 use Rattle.routes.specs.State.{State, state, Sized, Grown, clears, unmarked}
 use Rattle.routes.proofs.Small.{same-or-not}
 use Rattle.routes.proofs.Sums.{counted-here, sum-at, sum-le-count}
@@ -74,11 +75,11 @@ sized-constraint s e z = record {
   room = z .room;
 }
 
-pub unmarked-object : (m : ℕ) (s : State) (v : ℕ) → Sized s → v < objectLimit → Clear (s .objects) v → unmarked m (mark-object v s) + 1 ≡ unmarked m s
-unmarked-object m s v z b h = omega (arith, clears-marked objectLimit (s .objects) v b (omega (arith, z .objects)) h)
+pub unmarked-object : (m : ℕ) (s : State) (v : ℕ) → Sized s → v < mostObjects → Clear (s .objects) v → unmarked m (mark-object v s) + 1 ≡ unmarked m s
+unmarked-object m s v z b h = omega (arith, clears-marked mostObjects (s .objects) v b (omega (arith, z .objects)) h)
 
 pub unmarked-constraint : (m : ℕ) (s : State) (e : ℕ) → Sized s → e < m → e < length (s .constraints) → Clear (s .constraints) e → unmarked m (mark-constraint e s) + 1 ≡ unmarked m s
 unmarked-constraint m s e z b c h = omega (arith, clears-marked m (s .constraints) e b c h)
 
-pub unmarked-le : (m : ℕ) (s : State) → unmarked m s ≤ objectLimit + m
-unmarked-le m s = omega (arith, clears-le objectLimit (s .objects), clears-le m (s .constraints))
+pub unmarked-le : (m : ℕ) (s : State) → unmarked m s ≤ mostObjects + m
+unmarked-le m s = omega (arith, clears-le mostObjects (s .objects), clears-le m (s .constraints))

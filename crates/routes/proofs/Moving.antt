@@ -7,8 +7,9 @@ use native.Mathlib.Omega.{arith}
 use lib.ListN.{length, set, length-set}
 use lib.Dec.{eqb}
 use Rattle.density.specs.Sum.{counted}
-use Rattle.routes.specs.Limits.{at, Clear, objectLimit, constraintLimit, placeLimit}
-use Rattle.routes.specs.State.{State, state, Sized, Grown, Bounded, total, load}
+use Rattle.limits.specs.Limits.{mostObjects, mostConstraints, mostEnds}
+use Rattle.routes.specs.At.{at, Clear}
+use Rattle.routes.specs.State.{State, state, Sized, Grown, Bounded, bothShares, load}
 use Rattle.routes.specs.Search.{Moved, lowered, raised, shifted}
 use Rattle.routes.proofs.Small.{same-or-not}
 use Rattle.routes.proofs.Sums.{counted-here, counted-off}
@@ -18,7 +19,7 @@ use Rattle.routes.proofs.Places.{at-set-here, at-set-off, load-raised, 
 abbrev pub gave : ℕ → ℕ → State → State
 gave i v s = state (s .objects) (s .constraints) (raised i (s .shares)) (set (s .room) v (at (s .room) v - 1))
 
-pub moved-gave : (m i v : ℕ) (ends : List ℕ) (s : State) → Sized s → m ≤ constraintLimit → i < 2 * m → at ends i ≡ v → v < objectLimit
+pub moved-gave : (m i v : ℕ) (ends : List ℕ) (s : State) → Sized s → m ≤ mostConstraints → i < 2 * m → at ends i ≡ v → v < mostObjects
     → Clear (s .objects) v → 0 < at (s .room) v → Moved m (i / 2) ends s (gave i v s)
 moved-gave m i v ends s z few b is small clear some =
     let inside : i < length (s .shares) = omega (arith, z .shares) in
@@ -44,14 +45,14 @@ passed k i s = state (s .objects) (s .constraints) (shifted k i (s .shares)) (s 
 -- a search that went on from more marks, with the same shares and rooms, moved for the earlier marks too
 pub moved-after : (m e : ℕ) (ends : List ℕ) (s t u : State) → t .shares ≡ s .shares → t .room ≡ s .room → Grown s t → Moved m e ends t u → Moved m e ends s u
 moved-after m e ends s t u same-s same-r grown h = record {
-  totals = λ x. h .totals x ∙ ap (λ (l : List ℕ). total l x + counted (eqb e x) 1) same-s;
+  totals = λ x. h .totals x ∙ ap (λ (l : List ℕ). bothShares l x + counted (eqb e x) 1) same-s;
   loads = λ v. h .loads v ∙ ap (λ (a : List ℕ). load m ends a v + at (t .room) v) same-s ∙ ap (λ (a : List ℕ). load m ends (s .shares) v + at a v) same-r;
   rooms = λ v. subst (λ (a : List ℕ). at (u .room) v ≤ at a v) same-r (h .rooms v);
   kept = λ k l y. h .kept k l (grown .objects (at ends k) y) ∙ ap (λ (a : List ℕ). at a k) same-s;
 }
 
 -- the constraint k/2 gave one share more, and the one at k moves to the place i of the same object, which was not marked
-pub moved-passed : (m i k v : ℕ) (ends : List ℕ) (s u : State) → length (u .shares) ≡ placeLimit → m ≤ constraintLimit → i < 2 * m → k < 2 * m → at ends i ≡ v → at ends k ≡ v
+pub moved-passed : (m i k v : ℕ) (ends : List ℕ) (s u : State) → length (u .shares) ≡ mostEnds → m ≤ mostConstraints → i < 2 * m → k < 2 * m → at ends i ≡ v → at ends k ≡ v
     → Clear (s .objects) v → 0 < at (u .shares) k → Moved m (k / 2) ends s u → Moved m (i / 2) ends s (passed k i u)
 moved-passed m i k v ends s u long few bi bk ei ek clear some h =
     let ini : i < length (lowered k (u .shares)) = omega (arith, length-set (u .shares) k (at (u .shares) k - 1)) in

@@ -9,12 +9,13 @@ use lib.ListN.{length, replicate, length-replicate, getD-replicate, List·getD-e
 use Rattle.density.specs.Sum.{sum, counted}
 use Rattle.density.proofs.Sums.{sum-zero, counted-le}
 use lib.Dec.{eqb}
-use Rattle.routes.specs.Limits.{at, objectLimit, constraintLimit, placeLimit, weightLimit}
+use Rattle.limits.specs.Limits.{mostObjects, mostConstraints, mostEnds, mostWeight}
+use Rattle.routes.specs.At.{at}
 use Rattle.routes.specs.Wires.{Wired, Named}
-use Rattle.routes.specs.State.{State, state, total, load}
+use Rattle.routes.specs.State.{State, state, bothShares, load}
 use Rattle.routes.specs.Kept.{Asking, Settling, Settled}
 use Rattle.routes.specs.Arrays.{Fair}
-use Rattle.routes.specs.Answered.{Spread, Summing, Remains}
+use Rattle.routes.specs.Solved.{Spread, Summing, Remains}
 
 pub fair-named : {n m : ℕ} {ends weights takes : List ℕ} → Fair n m ends weights takes → Named m ends
 fair-named fair = record {
@@ -33,31 +34,31 @@ at-none n i = elim (decLt i n) [
     z : ℕ
     z = 0
 
-load-none : (m : ℕ) (ends : List ℕ) (v : ℕ) → load m ends (replicate placeLimit 0) v ≡ 0
+load-none : (m : ℕ) (ends : List ℕ) (v : ℕ) → load m ends (replicate mostEnds 0) v ≡ 0
 unfolding load
-load-none m ends v = sum-zero (2 * m) (λ i. counted (eqb (at ends i) v) (at (replicate placeLimit 0) i))
-    (λ i b. omega (arith, counted-le (eqb (at ends i) v) (at (replicate placeLimit 0) i), at-none placeLimit i))
+load-none m ends v = sum-zero (2 * m) (λ i. counted (eqb (at ends i) v) (at (replicate mostEnds 0) i))
+    (λ i b. omega (arith, counted-le (eqb (at ends i) v) (at (replicate mostEnds 0) i), at-none mostEnds i))
 
 abbrev pub empty : List ℕ → State
-empty room = state (replicate objectLimit 0) (replicate constraintLimit 0) (replicate placeLimit 0) room
+empty room = state (replicate mostObjects 0) (replicate mostConstraints 0) (replicate mostEnds 0) room
 
 pub opened : {n m : ℕ} {ends weights takes head next room : List ℕ} → Fair n m ends weights takes → Wired m ends head next
-    → room ≡ weights → length room ≡ objectLimit → Spread m ends weights takes head next (empty room)
+    → room ≡ weights → length room ≡ mostObjects → Spread m ends weights takes head next (empty room)
 opened {n} {m} {ends} {weights} {takes} {head} {next} {room} fair wired same long = record {
   wired = wired;
   kept = record {
     sized = record {
-      objects = length-replicate objectLimit z;
-      constraints = length-replicate constraintLimit z;
-      shares = length-replicate placeLimit z;
+      objects = length-replicate mostObjects z;
+      constraints = length-replicate mostConstraints z;
+      shares = length-replicate mostEnds z;
       room = long;
     };
     bounded = λ i b. omega (arith, load-none m ends (at ends i), ap (λ (l : List ℕ). at l (at ends i)) same, fair .light-objects (at ends i) (fair .named i b));
-    fits = λ e b. omega (arith, at-none placeLimit (2 * e), at-none placeLimit (2 * e + 1));
-    closed = λ e b h. absurd (omega (arith, at-none constraintLimit e));
-    full = λ v h. absurd (omega (arith, at-none objectLimit v));
-    goes-on = λ k b h. absurd (omega (arith, at-none objectLimit (at ends k)));
-    least = λ S starts goes v h. absurd (omega (arith, at-none objectLimit v));
+    fits = λ e b. omega (arith, at-none mostEnds (2 * e), at-none mostEnds (2 * e + 1));
+    closed = λ e b h. absurd (omega (arith, at-none mostConstraints e));
+    full = λ v h. absurd (omega (arith, at-none mostObjects v));
+    goes-on = λ k b h. absurd (omega (arith, at-none mostObjects (at ends k)));
+    least = λ S starts goes v h. absurd (omega (arith, at-none mostObjects v));
   };
   open-rooms = λ v. omega (arith, load-none m ends v, ap (λ (l : List ℕ). at l v) same);
 }
@@ -83,8 +84,8 @@ spread-settled spread settled = record {
 -- the sum over the constraints below e
 pub record Adding (m : ℕ) (takes shares : List ℕ) (r e : ℕ) : Type 0 where
   pub within : e ≤ m
-  pub is : r + sum e (λ x. total shares x) ≡ sum e (λ x. at takes x)
-  pub small : r ≤ weightLimit * e
+  pub is : r + sum e (λ x. bothShares shares x) ≡ sum e (λ x. at takes x)
+  pub small : r ≤ mostWeight * e
 
 pub adding-start : (m : ℕ) (takes shares : List ℕ) → Adding m takes shares 0 0
 unfolding sum
@@ -94,7 +95,7 @@ module _ {m : ℕ} {takes shares : List ℕ} (ask : Summing m takes shares) {r e
   pub adding-asks : e < m → Asking e takes shares
   adding-asks b = record { is = omega (arith, ask .few); fits = ask .fits e b }
 
-  pub adding-turn : e < m → (left : ℕ) → left + total shares e ≡ at takes e → Adding m takes shares (r + left) (e + 1)
+  pub adding-turn : e < m → (left : ℕ) → left + bothShares shares e ≡ at takes e → Adding m takes shares (r + left) (e + 1)
   unfolding sum
   adding-turn b left is =
       subst (λ (x : ℕ). Adding m takes shares (r + left) x) (sym (add-one e))
@@ -104,6 +105,6 @@ module _ {m : ℕ} {takes shares : List ℕ} (ask : Summing m takes shares) {r e
   adding-end b =
       let same : e ≡ m = omega (arith, h .within) in
       record {
-        is = subst (λ (x : ℕ). r + sum x (λ y. total shares y) ≡ sum x (λ y. at takes y)) same (h .is);
+        is = subst (λ (x : ℕ). r + sum x (λ y. bothShares shares y) ≡ sum x (λ y. at takes y)) same (h .is);
         small = omega (arith, h .small);
       }

@@ -9,8 +9,8 @@ use lib.Seq.{getD-set-same, getD-set-other}
 use lib.Dec.{eqb}
 use Rattle.density.specs.Sum.{sum, counted}
 use Rattle.density.proofs.Sums.{counted-add, term-le}
-use Rattle.routes.specs.Limits.{at}
-use Rattle.routes.specs.State.{total, load}
+use Rattle.routes.specs.At.{at}
+use Rattle.routes.specs.State.{bothShares, load}
 use Rattle.routes.specs.Search.{lowered, raised}
 use Rattle.routes.proofs.Small.{same-or-not}
 use Rattle.routes.proofs.Sums.{counted-here, counted-off, sum-at}
@@ -50,7 +50,7 @@ share-le-load m ends shares i l =
 -- ---- what a constraint gives
 
 pub total-set : (shares : List ℕ) (i y x : ℕ) → i < length shares
-    → total (set shares i y) x + counted (eqb (i / 2) x) (at shares i) ≡ total shares x + counted (eqb (i / 2) x) y
+    → bothShares (set shares i y) x + counted (eqb (i / 2) x) (at shares i) ≡ bothShares shares x + counted (eqb (i / 2) x) y
 total-set shares i y x b =
     ⊎-elim
     (λ e. ⊎-elim
@@ -81,11 +81,11 @@ total-set shares i y x b =
     ))
     (same-or-not (i / 2) x)
 
-pub total-raised : (shares : List ℕ) (i x : ℕ) → i < length shares → total (raised i shares) x ≡ total shares x + counted (eqb (i / 2) x) 1
+pub total-raised : (shares : List ℕ) (i x : ℕ) → i < length shares → bothShares (raised i shares) x ≡ bothShares shares x + counted (eqb (i / 2) x) 1
 total-raised shares i x b =
     omega (arith, total-set shares i (at shares i + 1) x b, counted-add (eqb (i / 2) x) (at shares i) 1)
 
-pub total-lowered : (shares : List ℕ) (k x : ℕ) → k < length shares → 0 < at shares k → total (lowered k shares) x + counted (eqb (k / 2) x) 1 ≡ total shares x
+pub total-lowered : (shares : List ℕ) (k x : ℕ) → k < length shares → 0 < at shares k → bothShares (lowered k shares) x + counted (eqb (k / 2) x) 1 ≡ bothShares shares x
 total-lowered shares k x b p =
     let whole : at shares k - 1 + 1 ≡ at shares k = omega arith in
     omega (arith, total-set shares k (at shares k - 1) x b, counted-add (eqb (k / 2) x) (at shares k - 1) 1, ap (λ (z : ℕ). counted (eqb (k / 2) x) z) whole)

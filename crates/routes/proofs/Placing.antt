@@ -5,8 +5,8 @@ use mathlib.Core.List.{List}
 use mathlib.Core.Bool.{Bool, true, false}
 use Prim.Native.Nat.{ℕ, _+_, _-_, _<_, _≤_}
 use native.Mathlib.Omega.{arith}
-use Rattle.routes.specs.Limits.{at, Clear}
-use Rattle.routes.specs.State.{State, total}
+use Rattle.routes.specs.At.{at, Clear}
+use Rattle.routes.specs.State.{State, bothShares}
 use Rattle.routes.specs.Search.{ReadyConstraint, FromConstraint}
 use Rattle.routes.specs.Kept.{Kept, Done, Onward, Settling, Placing, Placed, Settled, Asking}
 use Rattle.routes.proofs.Small.{same-or-not}
@@ -38,10 +38,10 @@ module _ {m e : ℕ} {ends head next takes : List ℕ} {s : State} (ask : Placin
       clear = going .clear;
     }
 
-    pub going-end : at takes e ≤ total (t .shares) e → Placed m e ends takes s t
+    pub going-end : at takes e ≤ bothShares (t .shares) e → Placed m e ends takes s t
     going-end none = record { kept = going .kept; onward = going .onward; here = λ l. absurd (omega arith) }
 
-    module _ (left : total (t .shares) e < at takes e) {u : State} {found : Bool} {count : ℕ} (after : FromConstraint m e ends t u found count) where
+    module _ (left : bothShares (t .shares) e < at takes e) {u : State} {found : Bool} {count : ℕ} (after : FromConstraint m e ends t u found count) where
       pub going-stuck : found ≡ false → Placed m e ends takes s u
       going-stuck failed = record {
         kept = kept-stuck m e ends takes t u (going .kept) (ask .is) left found count after failed;
@@ -57,7 +57,7 @@ module _ {m e : ℕ} {ends head next takes : List ℕ} {s : State} (ask : Placin
         clear = going .clear;
       }
 
-      pub going-less : found ≡ true → at takes e - total (u .shares) e < at takes e - total (t .shares) e
+      pub going-less : found ≡ true → at takes e - bothShares (u .shares) e < at takes e - bothShares (t .shares) e
       going-less is = moved-less m e ends takes t u (going .kept) (ask .is) left (going .clear) (after .searched .sized) (after .searched .moved is)
 
 -- ---- all constraints

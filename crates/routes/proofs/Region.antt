@@ -6,7 +6,7 @@ use mathlib.Core.Bool.{Bool}
 use Prim.Native.Nat.{ℕ, _*_, _/_, _<_}
 use native.Mathlib.Omega.{arith}
 use lib.Dec.{T}
-use Rattle.routes.specs.Limits.{at, Marked}
+use Rattle.routes.specs.At.{at, Marked}
 use Rattle.routes.specs.State.{State, Grown, GoesOn}
 use Rattle.routes.specs.Search.{Stuck}
 use Rattle.routes.proofs.Small.{same-or-not, zero-or-some}

@@ -7,8 +7,8 @@ use native.Mathlib.Omega.{arith}
 use lib.Dec.{eqb}
 use Rattle.density.specs.Sum.{counted}
 use Rattle.density.proofs.Sums.{sum-same, sum-zero}
-use Rattle.routes.specs.Limits.{at}
-use Rattle.routes.specs.State.{state, total, load}
+use Rattle.routes.specs.At.{at}
+use Rattle.routes.specs.State.{state, bothShares, load}
 use Rattle.routes.specs.Kept.{Kept}
 use Rattle.routes.specs.Release.{Released}
 use Rattle.routes.proofs.Small.{same-or-not}
@@ -34,11 +34,11 @@ module _ {m v : ℕ} {ends shares room shares′ room′ : List ℕ} (h : Releas
   pub share-less : (k : ℕ) → k < 2 * m → at shares′ k ≤ at shares k
   share-less k b = ⊎-elim (λ e. omega (arith, h .gone k b e)) (λ n. omega (arith, h .stay k n)) (same-or-not (at ends k) v)
 
-  pub total-less : (e : ℕ) → e < m → total shares′ e ≤ total shares e
+  pub total-less : (e : ℕ) → e < m → bothShares shares′ e ≤ bothShares shares e
   total-less e b = omega (arith, share-less (2 * e) (omega arith), share-less (2 * e + 1) (omega arith))
 
   -- the constraint at a place of v that had a share there has weight left
-  total-falls : (k : ℕ) → k < 2 * m → at ends k ≡ v → 0 < at shares k → total shares′ (k / 2) < total shares (k / 2)
+  total-falls : (k : ℕ) → k < 2 * m → at ends k ≡ v → 0 < at shares k → bothShares shares′ (k / 2) < bothShares shares (k / 2)
   total-falls k b is p =
       ⊎-elim
       (λ e. omega (arith, ap (λ (x : ℕ). at shares x) e, ap (λ (x : ℕ). at shares′ x) e, h .gone k b is, share-less (2 * (k / 2) + 1) (omega arith)))

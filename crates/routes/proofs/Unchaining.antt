@@ -6,7 +6,8 @@ use Prim.Native.Nat.{ℕ, _-_, _*_, _<_, _≤_}
 use native.Mathlib.Omega.{arith}
 use native.Mathlib.Decide.{decLe}
 use lib.ListN.{length, set, length-set}
-use Rattle.routes.specs.Limits.{at, placeLimit}
+use Rattle.limits.specs.Limits.{mostEnds}
+use Rattle.routes.specs.At.{at}
 use Rattle.routes.specs.Wires.{Last}
 use Rattle.routes.specs.Release.{Releasing, Released}
 use Rattle.routes.proofs.Small.{same-or-not}
@@ -14,7 +15,7 @@ use Rattle.routes.proofs.Places.{at-set-here, at-set-off}
 
 -- the places of v from left on are empty, and every other place is as it was
 pub record Unchaining (m v : ℕ) (ends shares₀ shares : List ℕ) (left : ℕ) : Type 0 where
-  pub long : length shares ≡ placeLimit
+  pub long : length shares ≡ mostEnds
   pub within : left ≤ 2 * m
   pub there : 0 < left → at ends (left - 1) ≡ v
   pub gone : (k : ℕ) → left ≤ k → k < 2 * m → at ends k ≡ v → at shares k ≡ 0
@@ -53,7 +54,7 @@ module _ {m v : ℕ} {ends head next shares₀ room : List ℕ} (ask : Releasing
       k-at : at ends k ≡ v
       k-at = h .there turn
 
-      pub unchain-place : k < placeLimit
+      pub unchain-place : k < mostEnds
       unchain-place = omega (arith, k-is, ask .wired .few)
 
       next-last : {left′ : ℕ} → left′ ≡ at next k → Last ends v k left′

@@ -8,7 +8,8 @@ use lib.ListN.{length-set}
 use lib.Dec.{T}
 use Rattle.routes.specs.declared.search.Marks.{Marks}
 use Rattle.routes.specs.declared.search.Route.{Route}
-use Rattle.routes.specs.Limits.{at, Marked, Clear, objectLimit, placeLimit}
+use Rattle.limits.specs.Limits.{mostObjects, mostEnds}
+use Rattle.routes.specs.At.{at, Marked, Clear}
 use Rattle.routes.specs.State.{State, state}
 use Rattle.routes.specs.Route.{routeOf}
 use Rattle.routes.specs.Search.{ReadyObject, FromObject, Giving, Given}
@@ -25,11 +26,11 @@ object-answers {m} {i} {ends} {s} {constraints} {shares} {room} e h =
     subst (λ (x : Route). FromObject m i ends s (state (x .marks .objects) constraints shares room) (x .found) (x .count)) (sym e) h
 
 module _ {m i v : ℕ} {ends head next : List ℕ} {s : State} (ready : ReadyObject m i ends head next s) (is : at ends i ≡ v) where
-  pub place-small : i < placeLimit
+  pub place-small : i < mostEnds
   place-small = omega (arith, ready .is, ready .ready .wired .few)
 
-  pub end-small : v < objectLimit
-  end-small = subst (λ (x : ℕ). x < objectLimit) is (ready .ready .wired .named i (ready .is))
+  pub end-small : v < mostObjects
+  end-small = subst (λ (x : ℕ). x < mostObjects) is (ready .ready .wired .named i (ready .is))
 
   -- v is marked already
   pub object-marked : Marked (s .objects) v → FromObject m i ends s s false 0

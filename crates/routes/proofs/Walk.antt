@@ -8,9 +8,10 @@ use native.Mathlib.Omega.{arith}
 use native.Mathlib.Decide.{decLe}
 use lib.ListN.{length, length-set}
 use lib.Dec.{T}
-use Rattle.routes.specs.Limits.{at, Marked, Clear, objectLimit, constraintLimit, placeLimit}
+use Rattle.limits.specs.Limits.{mostObjects, mostConstraints, mostEnds}
+use Rattle.routes.specs.At.{at, Marked, Clear}
 use Rattle.routes.specs.Wires.{Last}
-use Rattle.routes.specs.State.{State, state, Sized, Grown, Holds, Bounded, unmarked}
+use Rattle.routes.specs.State.{State, state, Sized, Grown, BothIn, Bounded, unmarked}
 use Rattle.routes.specs.Search.{ReadyObject, ReadyConstraint, Stuck, FromObject, FromConstraint, Shifting, lowered, shifted}
 use Rattle.routes.proofs.Visit.{end-small}
 use Rattle.routes.proofs.Small.{no-true, no-false, same-or-not}
@@ -31,7 +32,7 @@ pub record Walking (m v : ℕ) (ends : List ℕ) (b t : State) (left count : ℕ
   pub covered : (k : ℕ) → left ≤ k → k < 2 * m → at ends k ≡ v → 0 < at (b .shares) k → Marked (t .constraints) (k / 2)
 
 module _ {m i v : ℕ} {ends head next : List ℕ} {s : State} (ready : ReadyObject m i ends head next s) (is : at ends i ≡ v) where
-  abbrev v-small : v < objectLimit
+  abbrev v-small : v < mostObjects
   v-small = end-small ready is
 
   module _ (clear : Clear (s .objects) v) where
@@ -96,7 +97,7 @@ module _ {m i v : ℕ} {ends head next : List ℕ} {s : State} (ready : ReadyObj
         k-marked : Marked (t .objects) (at ends k)
         k-marked = subst (λ (x : ℕ). Marked (t .objects) x) (sym k-at) marked-t
 
-        pub walk-place : k < placeLimit
+        pub walk-place : k < mostEnds
         walk-place = omega (arith, k-is, ready .ready .wired .few)
 
         next-last : {left′ : ℕ} → left′ ≡ at next k → Last ends v k left′
@@ -145,12 +146,12 @@ module _ {m i v : ℕ} {ends head next : List ℕ} {s : State} (ready : ReadyObj
           pub walk-counts : more + count + unmarked m u ≡ unmarked m s
           walk-counts = omega (arith, walking .counts, after .searched .counts, one-less)
 
-          pub walk-count-small : more + count ≤ objectLimit + constraintLimit
+          pub walk-count-small : more + count ≤ mostObjects + mostConstraints
           walk-count-small = omega (arith, walk-counts, unmarked-le m s, ready .ready .wired .few)
 
           pub walk-on : found ≡ false → {left′ : ℕ} → left′ ≡ at next k → 0 < at (t .shares) k → Walking m v ends (mark-object v s) u left′ (more + count)
           walk-on failed e some =
-              let inner : Stuck m ends (λ S. Holds ends S (k / 2)) t u = after .searched .stuck failed in
+              let inner : Stuck m ends (λ S. BothIn ends S (k / 2)) t u = after .searched .stuck failed in
               let as-v : Stuck m ends (λ S. T (S v)) t u = record {
                 same-shares = inner .same-shares;
                 same-room = inner .same-room;

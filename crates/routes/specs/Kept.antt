@@ -4,19 +4,20 @@ use mathlib.Core.List.{List}
 use mathlib.Core.Bool.{Bool, true, false}
 use Prim.Native.Nat.{ℕ, _+_, _*_, _/_, _<_, _≤_}
 use lib.Dec.{T}
-use Rattle.routes.specs.Limits.{at, Marked, Clear, constraintLimit}
+use Rattle.limits.specs.Limits.{mostConstraints}
+use Rattle.routes.specs.At.{at, Marked, Clear}
 use Rattle.routes.specs.Wires.{Wired}
-use Rattle.routes.specs.State.{State, Sized, Holds, GoesOn, Bounded, total, load}
+use Rattle.routes.specs.State.{State, Sized, BothIn, GoesOn, Bounded, bothShares, load}
 
 -- 01: "A route starts at a constraint with weight left": S holds every marked constraint with weight left
 abbrev pub Starts : ℕ → List ℕ → List ℕ → State → (ℕ → Bool) → Type 0
-Starts m ends takes s S = (e : ℕ) → e < m → Marked (s .constraints) e → total (s .shares) e < at takes e → Holds ends S e
+Starts m ends takes s S = (e : ℕ) → e < m → Marked (s .constraints) e → bothShares (s .shares) e < at takes e → BothIn ends S e
 
 -- the shares of a constraint are within its weight, and the marked objects are a region that no route leaves, the least one with its own starts
 pub record Kept (m : ℕ) (ends takes : List ℕ) (s : State) : Type 0 where
   pub sized : Sized s
   pub bounded : Bounded m ends s
-  pub fits : (e : ℕ) → e < m → total (s .shares) e ≤ at takes e
+  pub fits : (e : ℕ) → e < m → bothShares (s .shares) e ≤ at takes e
   pub closed : (e : ℕ) → e < m → Marked (s .constraints) e → (i : ℕ) → i / 2 ≡ e → Marked (s .objects) (at ends i)
   pub full : (v : ℕ) → Marked (s .objects) v → at (s .room) v ≡ 0
   pub goes-on : (k : ℕ) → k < 2 * m → Marked (s .objects) (at ends k) → 0 < at (s .shares) k → Marked (s .constraints) (k / 2)
@@ -24,7 +25,7 @@ pub record Kept (m : ℕ) (ends takes : List ℕ) (s : State) : Type 0 where
 
 -- e has given all its weight, or is stuck
 abbrev pub Done : List ℕ → State → ℕ → Type 0
-Done takes s e = total (s .shares) e < at takes e → Marked (s .constraints) e
+Done takes s e = bothShares (s .shares) e < at takes e → Marked (s .constraints) e
 
 -- what each object receives and has room for stays in sum, and what is done stays done
 pub record Onward (m : ℕ) (ends takes : List ℕ) (s s′ : State) : Type 0 where
@@ -53,10 +54,10 @@ pub record Settled (m : ℕ) (ends takes : List ℕ) (s s′ : State) : Type 0 w
 
 -- e is a constraint that has given no more than its weight
 pub record Asking (e : ℕ) (takes shares : List ℕ) : Type 0 where
-  pub is : e < constraintLimit
-  pub fits : total shares e ≤ at takes e
+  pub is : e < mostConstraints
+  pub fits : bothShares shares e ≤ at takes e
 
 -- whether e has weight left and is not marked
 pub record Waits (e : ℕ) (takes : List ℕ) (constraints shares : List ℕ) (r : Bool) : Type 0 where
-  pub yes : r ≡ true → (total shares e < at takes e) × Clear constraints e
-  pub no : r ≡ false → total shares e < at takes e → Marked constraints e
+  pub yes : r ≡ true → (bothShares shares e < at takes e) × Clear constraints e
+  pub no : r ≡ false → bothShares shares e < at takes e → Marked constraints e

@@ -1,4 +1,4 @@
-pub mod Limits
+pub mod At
 pub mod Wires
 pub mod State
 pub mod Route
@@ -6,4 +6,4 @@ pub mod Search
 pub mod Kept
 pub mod Release
 pub mod Arrays
-pub mod Answered
+pub mod Solved

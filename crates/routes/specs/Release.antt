@@ -4,18 +4,19 @@ use mathlib.Core.Logic.{_≢_}
 use mathlib.Core.List.{List}
 use Prim.Native.Nat.{ℕ, _*_, _<_}
 use lib.ListN.{length}
-use Rattle.routes.specs.Limits.{at, objectLimit, placeLimit}
+use Rattle.limits.specs.Limits.{mostObjects, mostEnds}
+use Rattle.routes.specs.At.{at}
 use Rattle.routes.specs.Wires.{Wired}
 
 pub record Releasing (m v : ℕ) (ends head next shares room : List ℕ) : Type 0 where
   pub wired : Wired m ends head next
-  pub object : v < objectLimit
-  pub shares-long : length shares ≡ placeLimit
-  pub room-long : length room ≡ objectLimit
+  pub object : v < mostObjects
+  pub shares-long : length shares ≡ mostEnds
+  pub room-long : length room ≡ mostObjects
 
 pub record Released (m v : ℕ) (ends shares room shares′ room′ : List ℕ) : Type 0 where
-  pub shares-long : length shares′ ≡ placeLimit
-  pub room-long : length room′ ≡ objectLimit
+  pub shares-long : length shares′ ≡ mostEnds
+  pub room-long : length room′ ≡ mostObjects
   pub gone : (k : ℕ) → k < 2 * m → at ends k ≡ v → at shares′ k ≡ 0
   pub stay : (k : ℕ) → at ends k ≢ v → at shares′ k ≡ at shares k
   pub no-room : at room′ v ≡ 0

@@ -6,9 +6,10 @@ use Prim.Native.Nat.{ℕ, _+_, _-_, _*_, _/_, _<_, _≤_}
 use lib.Dec.{T, eqb}
 use lib.ListN.{set}
 use Rattle.density.specs.Sum.{counted}
-use Rattle.routes.specs.Limits.{at, Marked, Clear, objectLimit, placeLimit}
+use Rattle.limits.specs.Limits.{mostObjects, mostEnds}
+use Rattle.routes.specs.At.{at, Marked, Clear}
 use Rattle.routes.specs.Wires.{Wired}
-use Rattle.routes.specs.State.{State, Sized, Grown, Holds, GoesOn, Bounded, total, load, unmarked}
+use Rattle.routes.specs.State.{State, Sized, Grown, BothIn, GoesOn, Bounded, bothShares, load, unmarked}
 
 -- what a search asks
 pub record Ready (m : ℕ) (ends head next : List ℕ) (s : State) : Type 0 where
@@ -40,7 +41,7 @@ pub record Stuck (m : ℕ) (ends : List ℕ) (from : (ℕ → Bool) → Type 0) 
 
 -- a route was found: e gives one share more, and what every other constraint gives and every object receives or has room for is as before
 pub record Moved (m e : ℕ) (ends : List ℕ) (s s′ : State) : Type 0 where
-  pub totals : (x : ℕ) → total (s′ .shares) x ≡ total (s .shares) x + counted (eqb e x) 1
+  pub totals : (x : ℕ) → bothShares (s′ .shares) x ≡ bothShares (s .shares) x + counted (eqb e x) 1
   pub loads : (v : ℕ) → load m ends (s′ .shares) v + at (s′ .room) v ≡ load m ends (s .shares) v + at (s .room) v
   pub rooms : (v : ℕ) → at (s′ .room) v ≤ at (s .room) v
   -- nothing at a marked object changes
@@ -55,7 +56,7 @@ pub record Searched (m e : ℕ) (ends : List ℕ) (from : (ℕ → Bool) → Typ
   pub moved : found ≡ true → Moved m e ends s s′
 
 pub record FromConstraint (m e : ℕ) (ends : List ℕ) (s s′ : State) (found : Bool) (count : ℕ) : Type 0 where
-  pub searched : Searched m e ends (λ S. Holds ends S e) s s′ found count
+  pub searched : Searched m e ends (λ S. BothIn ends S e) s s′ found count
   pub here : Marked (s′ .constraints) e
 
 pub record FromObject (m i : ℕ) (ends : List ℕ) (s s′ : State) (found : Bool) (count : ℕ) : Type 0 where
@@ -79,8 +80,8 @@ shifted k i shares = raised i (lowered k shares)
 
 -- one share more at the place i, from the room of v; the share fits 16 bits
 pub record Giving (i v : ℕ) (shares room : List ℕ) : Type 0 where
-  pub place : i < placeLimit
-  pub object : v < objectLimit
+  pub place : i < mostEnds
+  pub object : v < mostObjects
   pub fits : at shares i < 65535
   pub has-room : 0 < at room v
 
@@ -90,7 +91,7 @@ pub record Given (i v : ℕ) (shares room shares′ room′ : List ℕ) : Type 0
 
 -- a share goes from the place k to the place i
 pub record Shifting (k i : ℕ) (shares : List ℕ) : Type 0 where
-  pub from : k < placeLimit
-  pub to : i < placeLimit
+  pub from : k < mostEnds
+  pub to : i < mostEnds
   pub some : 0 < at shares k
   pub fits : at (lowered k shares) i < 65535

@@ -6,7 +6,8 @@ use Prim.Native.Nat.{ℕ, _+_, _*_, _/_, _<_, _≤_}
 use lib.ListN.{length}
 use lib.Dec.{T, eqb}
 use Rattle.density.specs.Sum.{sum, counted}
-use Rattle.routes.specs.Limits.{at, Marked, objectLimit, constraintLimit, placeLimit}
+use Rattle.limits.specs.Limits.{mostObjects, mostConstraints, mostEnds}
+use Rattle.routes.specs.At.{at, Marked}
 
 pub record State : Type 0 where
   pub objects : List ℕ
@@ -18,14 +19,14 @@ abbrev pub state : List ℕ → List ℕ → List ℕ → List ℕ → State
 state o c s r = record { objects = o; constraints = c; shares = s; room = r }
 
 pub record Sized (s : State) : Type 0 where
-  pub objects : length (s .objects) ≡ objectLimit
-  pub constraints : length (s .constraints) ≡ constraintLimit
-  pub shares : length (s .shares) ≡ placeLimit
-  pub room : length (s .room) ≡ objectLimit
+  pub objects : length (s .objects) ≡ mostObjects
+  pub constraints : length (s .constraints) ≡ mostConstraints
+  pub shares : length (s .shares) ≡ mostEnds
+  pub room : length (s .room) ≡ mostObjects
 
 -- both shares of a constraint
-abbrev pub total : List ℕ → ℕ → ℕ
-total shares e = at shares (2 * e) + at shares (2 * e + 1)
+abbrev pub bothShares : List ℕ → ℕ → ℕ
+bothShares shares e = at shares (2 * e) + at shares (2 * e + 1)
 
 -- what the object v receives: the shares at its places
 unfoldable pub load : ℕ → List ℕ → List ℕ → ℕ → ℕ
@@ -37,7 +38,7 @@ clears k l = sum k (λ x. counted (eqb (at l x) 0) 1)
 
 -- "the number of unmarked items"
 abbrev pub unmarked : ℕ → State → ℕ
-unmarked m s = clears objectLimit (s .objects) + clears m (s .constraints)
+unmarked m s = clears mostObjects (s .objects) + clears m (s .constraints)
 
 -- no end receives more than a byte holds
 abbrev pub Bounded : ℕ → List ℕ → State → Type 0
@@ -49,9 +50,9 @@ pub record Grown (s s′ : State) : Type 0 where
   pub constraints : (e : ℕ) → Marked (s .constraints) e → Marked (s′ .constraints) e
 
 -- both ends of e are in S
-abbrev pub Holds : List ℕ → (ℕ → Bool) → ℕ → Type 0
-Holds ends S e = (i : ℕ) → i / 2 ≡ e → T (S (at ends i))
+abbrev pub BothIn : List ℕ → (ℕ → Bool) → ℕ → Type 0
+BothIn ends S e = (i : ℕ) → i / 2 ≡ e → T (S (at ends i))
 
 -- 01: "from a full object to any constraint that has put a share there": S contains what the routes come to from its marked objects
 abbrev pub GoesOn : ℕ → List ℕ → State → (ℕ → Bool) → Type 0
-GoesOn m ends s S = (k : ℕ) → k < 2 * m → Marked (s .objects) (at ends k) → T (S (at ends k)) → 0 < at (s .shares) k → Holds ends S (k / 2)
+GoesOn m ends s S = (k : ℕ) → k < 2 * m → Marked (s .objects) (at ends k) → T (S (at ends k)) → 0 < at (s .shares) k → BothIn ends S (k / 2)

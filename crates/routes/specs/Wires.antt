@@ -3,7 +3,8 @@ use mathlib.Core.Path.{_≡_}
 use mathlib.Core.Logic.{_≢_}
 use mathlib.Core.List.{List}
 use Prim.Native.Nat.{ℕ, _-_, _*_, _<_, _≤_}
-use Rattle.routes.specs.Limits.{at, objectLimit, constraintLimit}
+use Rattle.limits.specs.Limits.{mostObjects, mostConstraints}
+use Rattle.routes.specs.At.{at}
 
 -- p is one more than the last place below i at which v is an end, or 0 if there is none
 pub record Last (ends : List ℕ) (v i p : ℕ) : Type 0 where
@@ -13,12 +14,12 @@ pub record Last (ends : List ℕ) (v i p : ℕ) : Type 0 where
 
 -- every end names an object within the limits
 pub record Named (m : ℕ) (ends : List ℕ) : Type 0 where
-  pub few : m ≤ constraintLimit
-  pub named : (i : ℕ) → i < 2 * m → at ends i < objectLimit
+  pub few : m ≤ mostConstraints
+  pub named : (i : ℕ) → i < 2 * m → at ends i < mostObjects
 
 -- the chain of v starts at its last place and goes on from each place to the one before
 pub record Wired (m : ℕ) (ends head next : List ℕ) : Type 0 where
-  pub few : m ≤ constraintLimit
-  pub named : (i : ℕ) → i < 2 * m → at ends i < objectLimit
-  pub heads : (v : ℕ) → v < objectLimit → Last ends v (2 * m) (at head v)
+  pub few : m ≤ mostConstraints
+  pub named : (i : ℕ) → i < 2 * m → at ends i < mostObjects
+  pub heads : (v : ℕ) → v < mostObjects → Last ends v (2 * m) (at head v)
   pub nexts : (k : ℕ) → k < 2 * m → Last ends (at ends k) k (at next k)

@@ -1,9 +1,6 @@
 // The answer for a constraint: release its two ends, settle again, and the marked objects are its answer set.
 // One base distribution serves every constraint; 'from nothing' is the same with an empty start.
 // n and m count the objects and the constraints in use.
-use crate::CONSTRAINTS;
-use crate::OBJECTS;
-use crate::PLACES;
 use crate::chains::chain;
 use crate::release::release;
 use crate::search::Marks;
@@ -11,18 +8,21 @@ use crate::search::place_at;
 use crate::settle::left;
 use crate::settle::number;
 use crate::settle::settle;
+use limits::CONSTRAINTS;
+use limits::ENDS;
+use limits::OBJECTS;
 ghost use mathlib.Core.Path.{_≡_};
 ghost use lib.ListN.{length};
-ghost use Rattle.routes.specs.Limits.{objectLimit};
+ghost use Rattle.limits.specs.Limits.{mostObjects};
 ghost use Rattle.routes.specs.State.{state};
 ghost use Rattle.routes.specs.Arrays.{Fair};
-ghost use Rattle.routes.specs.Answered.{Spread, AskedFor, Answered, Summing, Remains};
+ghost use Rattle.routes.specs.Solved.{Spread, AskedFor, Solved, Summing, Remains};
 
 // What has been given: the chains, the shares by place, the room of each object, and the marks of the stuck.
 pub struct Distribution {
     pub head: [u16; OBJECTS],
-    pub next: [u16; PLACES],
-    pub shares: [u16; PLACES],
+    pub next: [u16; ENDS],
+    pub shares: [u16; ENDS],
     pub room: [u8; OBJECTS],
     pub stuck: [u8; CONSTRAINTS],
     pub marks: Marks,
@@ -32,13 +32,13 @@ pub struct Distribution {
 pub struct Top {
     pub above: usize,
     pub below: usize,
-    pub shares: [u16; PLACES],
+    pub shares: [u16; ENDS],
     pub marks: Marks,
 }
 
 // At the start the room of an object is its weight.
 fn rooms(weights: [u8; OBJECTS]) -> [u8; OBJECTS]
-    ensures { λ r. ⌜ (r ≡ weights) × (length r ≡ objectLimit) ⌝ }
+    ensures { λ r. ⌜ (r ≡ weights) × (length r ≡ mostObjects) ⌝ }
 {
     weights
 }
@@ -47,7 +47,7 @@ fn rooms(weights: [u8; OBJECTS]) -> [u8; OBJECTS]
 pub fn nothing(
     n: usize,
     m: usize,
-    ends: &[u16; PLACES],
+    ends: &[u16; ENDS],
     weights: &[u8; OBJECTS],
     takes: &[u8; CONSTRAINTS],
 ) -> Distribution
@@ -59,7 +59,7 @@ pub fn nothing(
     let next = chains.next;
     let open = *weights;
     let room = rooms(open);
-    let shares = [0u16; PLACES];
+    let shares = [0u16; ENDS];
     let stuck = [0u8; CONSTRAINTS];
     let objects = [0u8; OBJECTS];
     let marks = Marks { objects };
@@ -77,7 +77,7 @@ pub fn nothing(
 pub fn base(
     n: usize,
     m: usize,
-    ends: &[u16; PLACES],
+    ends: &[u16; ENDS],
     weights: &[u8; OBJECTS],
     takes: &[u8; CONSTRAINTS],
 ) -> Distribution
@@ -113,7 +113,7 @@ pub fn base(
 }
 
 // The sum of the weight that all constraints have left.
-fn remainder(m: usize, shares: &[u16; PLACES], takes: &[u8; CONSTRAINTS]) -> usize
+fn remainder(m: usize, shares: &[u16; ENDS], takes: &[u8; CONSTRAINTS]) -> usize
     requires { ⌜ Summing m (now takes) (now shares) ⌝ }
     ensures { λ r. ⌜ Remains m (now (takes .entry)) (now (shares .entry)) r ⌝ }
 {
@@ -131,13 +131,13 @@ pub fn answer(
     n: usize,
     m: usize,
     c: usize,
-    ends: &[u16; PLACES],
+    ends: &[u16; ENDS],
     weights: &[u8; OBJECTS],
     takes: &[u8; CONSTRAINTS],
     from: Distribution,
 ) -> Top
     requires { ⌜ AskedFor n m c (now ends) (now weights) (now takes) (from .head) (from .next) (state (from .marks .objects) (from .stuck) (from .shares) (from .room)) ⌝ }
-    ensures { λ r. ⌜ Answered n m c (now (ends .entry)) (now (weights .entry)) (now (takes .entry)) (r .marks .objects) (r .shares) (r .above) (r .below) ⌝ }
+    ensures { λ r. ⌜ Solved n m c (now (ends .entry)) (now (weights .entry)) (now (takes .entry)) (r .marks .objects) (r .shares) (r .above) (r .below) ⌝ }
 {
     let head = from.head;
     let next = from.next;

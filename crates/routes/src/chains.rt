@@ -1,21 +1,21 @@
 // The chains: from an object to each of its places, the last first, at the cost of its degree.
-use crate::OBJECTS;
-use crate::PLACES;
 use crate::search::place_at;
+use limits::ENDS;
+use limits::OBJECTS;
 ghost use Rattle.routes.specs.Wires.{Named, Wired};
 
 // One more than the last place of each object, and one more than the place before of the same object; 0 for none.
 pub struct Chains {
     pub head: [u16; OBJECTS],
-    pub next: [u16; PLACES],
+    pub next: [u16; ENDS],
 }
 
-pub fn chain(m: usize, ends: &[u16; PLACES]) -> Chains
+pub fn chain(m: usize, ends: &[u16; ENDS]) -> Chains
     requires { ⌜ Named m (now ends) ⌝ }
     ensures { λ r. ⌜ Wired m (now (ends .entry)) (r .head) (r .next) ⌝ }
 {
     let mut head = [0u16; OBJECTS];
-    let mut next = [0u16; PLACES];
+    let mut next = [0u16; ENDS];
     let mut i: usize = 0;
     while i < 2 * m {
         let v = place_at(i, ends);

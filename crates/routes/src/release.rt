@@ -1,18 +1,18 @@
 // Releasing an object: its shares go back to their constraints, and it has no room. m and ends stand for the statement.
-use crate::OBJECTS;
-use crate::PLACES;
 use crate::search::head_of;
 use crate::search::place_at;
+use limits::ENDS;
+use limits::OBJECTS;
 ghost use Rattle.routes.specs.Release.{Releasing, Released};
 
 pub fn release(
     m: usize,
     v: usize,
-    shares: &mut [u16; PLACES],
+    shares: &mut [u16; ENDS],
     room: &mut [u8; OBJECTS],
-    ends: &[u16; PLACES],
+    ends: &[u16; ENDS],
     head: &[u16; OBJECTS],
-    next: &[u16; PLACES],
+    next: &[u16; ENDS],
 )
     requires { ⌜ Releasing m v (now ends) (now head) (now next) (now shares) (now room) ⌝ }
     ensures { λ _. ⌜ Released m v (now (ends .entry)) (now (shares .entry)) (now (room .entry)) (now (shares .exit)) (now (room .exit)) ⌝ }

@@ -1,10 +1,11 @@
 // The route search: from a constraint to its objects, and from a full object to the constraints with a share there.
-use crate::CONSTRAINTS;
-use crate::OBJECTS;
-use crate::PLACES;
+use limits::CONSTRAINTS;
+use limits::ENDS;
+use limits::OBJECTS;
 ghost use mathlib.Core.Path.{_≡_};
 ghost use Prim.Native.Nat.{_<_};
-ghost use Rattle.routes.specs.Limits.{at, objectLimit, placeLimit};
+ghost use Rattle.limits.specs.Limits.{mostObjects, mostEnds};
+ghost use Rattle.routes.specs.At.{at};
 ghost use Rattle.routes.specs.State.{state};
 ghost use Rattle.routes.specs.Route.{routeOf};
 ghost use Rattle.routes.specs.Search.{ReadyConstraint, ReadyObject, FromConstraint, FromObject, Waiting, Giving, Given, Shifting, shifted};
@@ -34,8 +35,8 @@ impl Route {
 }
 
 // What stands at a place: of ends an object, of next one more than a place.
-pub fn place_at(i: usize, list: &[u16; PLACES]) -> usize
-    requires { ⌜ i < placeLimit ⌝ }
+pub fn place_at(i: usize, list: &[u16; ENDS]) -> usize
+    requires { ⌜ i < mostEnds ⌝ }
     ensures { λ r. ⌜ r ≡ at (now (list .entry)) i ⌝ }
 {
     wide(list[i])
@@ -43,7 +44,7 @@ pub fn place_at(i: usize, list: &[u16; PLACES]) -> usize
 
 // One more than the last place of an object.
 pub fn head_of(v: usize, head: &[u16; OBJECTS]) -> usize
-    requires { ⌜ v < objectLimit ⌝ }
+    requires { ⌜ v < mostObjects ⌝ }
     ensures { λ r. ⌜ r ≡ at (now (head .entry)) v ⌝ }
 {
     wide(head[v])
@@ -57,8 +58,8 @@ pub fn wide(x: u16) -> usize
 }
 
 // Whether the constraint at place k has a share there and is not marked.
-fn waiting(k: usize, stuck: &[u8; CONSTRAINTS], shares: &[u16; PLACES]) -> bool
-    requires { ⌜ k < placeLimit ⌝ }
+fn waiting(k: usize, stuck: &[u8; CONSTRAINTS], shares: &[u16; ENDS]) -> bool
+    requires { ⌜ k < mostEnds ⌝ }
     ensures { λ r. ⌜ Waiting k (now (stuck .entry)) (now (shares .entry)) r ⌝ }
 {
     if shares[k] == 0 {
@@ -68,7 +69,7 @@ fn waiting(k: usize, stuck: &[u8; CONSTRAINTS], shares: &[u16; PLACES]) -> bool
 }
 
 // The object v, which has room, receives one share more at place i.
-fn give(i: usize, v: usize, shares: &mut [u16; PLACES], room: &mut [u8; OBJECTS])
+fn give(i: usize, v: usize, shares: &mut [u16; ENDS], room: &mut [u8; OBJECTS])
     requires { ⌜ Giving i v (now shares) (now room) ⌝ }
     ensures { λ _. ⌜ Given i v (now (shares .entry)) (now (room .entry)) (now (shares .exit)) (now (room .exit)) ⌝ }
 {
@@ -77,7 +78,7 @@ fn give(i: usize, v: usize, shares: &mut [u16; PLACES], room: &mut [u8; OBJECTS]
 }
 
 // A share goes from place k to place i.
-fn shift(k: usize, i: usize, shares: &mut [u16; PLACES])
+fn shift(k: usize, i: usize, shares: &mut [u16; ENDS])
     requires { ⌜ Shifting k i (now shares) ⌝ }
     ensures { λ _. ⌜ now (shares .exit) ≡ shifted k i (now (shares .entry)) ⌝ }
 {
@@ -91,11 +92,11 @@ pub fn from_constraint(
     e: usize,
     marks: Marks,
     stuck: &mut [u8; CONSTRAINTS],
-    shares: &mut [u16; PLACES],
+    shares: &mut [u16; ENDS],
     room: &mut [u8; OBJECTS],
-    ends: &[u16; PLACES],
+    ends: &[u16; ENDS],
     head: &[u16; OBJECTS],
-    next: &[u16; PLACES],
+    next: &[u16; ENDS],
 ) -> Route
     requires { ⌜ ReadyConstraint m e (now ends) (now head) (now next) (state (marks .objects) (now stuck) (now shares) (now room)) ⌝ }
     ensures { λ r. ⌜ FromConstraint m e (now (ends .entry)) (state (marks .objects) (now (stuck .entry)) (now (shares .entry)) (now (room .entry))) (state (r .marks .objects) (now (stuck .exit)) (now (shares .exit)) (now (room .exit))) (r .found) (r .count) ⌝ }
@@ -119,11 +120,11 @@ fn from_object(
     i: usize,
     mut marks: Marks,
     stuck: &mut [u8; CONSTRAINTS],
-    shares: &mut [u16; PLACES],
+    shares: &mut [u16; ENDS],
     room: &mut [u8; OBJECTS],
-    ends: &[u16; PLACES],
+    ends: &[u16; ENDS],
     head: &[u16; OBJECTS],
-    next: &[u16; PLACES],
+    next: &[u16; ENDS],
 ) -> Route
     requires { ⌜ ReadyObject m i (now ends) (now head) (now next) (state (marks .objects) (now stuck) (now shares) (now room)) ⌝ }
     ensures { λ r. ⌜ FromObject m i (now (ends .entry)) (state (marks .objects) (now (stuck .entry)) (now (shares .entry)) (now (room .entry))) (state (r .marks .objects) (now (stuck .exit)) (now (shares .exit)) (now (room .exit))) (r .found) (r .count) ⌝ }

@@ -1,14 +1,14 @@
 // Settling: each constraint gives what weight it has left along routes, or is stuck.
-use crate::CONSTRAINTS;
-use crate::OBJECTS;
-use crate::PLACES;
 use crate::search::Marks;
 use crate::search::from_constraint;
 use crate::search::wide;
+use limits::CONSTRAINTS;
+use limits::ENDS;
+use limits::OBJECTS;
 ghost use mathlib.Core.Path.{_≡_};
 ghost use Prim.Native.Nat.{_+_};
-ghost use Rattle.routes.specs.Limits.{at};
-ghost use Rattle.routes.specs.State.{state, total};
+ghost use Rattle.routes.specs.At.{at};
+ghost use Rattle.routes.specs.State.{state, bothShares};
 ghost use Rattle.routes.specs.Kept.{Settling, Settled, Placing, Placed, Asking, Waits};
 
 // A weight as a number to count with.
@@ -19,9 +19,9 @@ pub fn number(x: u8) -> usize
 }
 
 // What weight constraint e has left.
-pub fn left(e: usize, shares: &[u16; PLACES], takes: &[u8; CONSTRAINTS]) -> usize
+pub fn left(e: usize, shares: &[u16; ENDS], takes: &[u8; CONSTRAINTS]) -> usize
     requires { ⌜ Asking e (now takes) (now shares) ⌝ }
-    ensures { λ r. ⌜ r + total (now (shares .entry)) e ≡ at (now (takes .entry)) e ⌝ }
+    ensures { λ r. ⌜ r + bothShares (now (shares .entry)) e ≡ at (now (takes .entry)) e ⌝ }
 {
     number(takes[e]) - wide(shares[2 * e]) - wide(shares[2 * e + 1])
 }
@@ -30,7 +30,7 @@ pub fn left(e: usize, shares: &[u16; PLACES], takes: &[u8; CONSTRAINTS]) -> usiz
 fn waits(
     e: usize,
     stuck: &[u8; CONSTRAINTS],
-    shares: &[u16; PLACES],
+    shares: &[u16; ENDS],
     takes: &[u8; CONSTRAINTS],
 ) -> bool
     requires { ⌜ Asking e (now takes) (now shares) ⌝ }
@@ -49,12 +49,12 @@ fn place(
     e: usize,
     marks: Marks,
     stuck: &mut [u8; CONSTRAINTS],
-    shares: &mut [u16; PLACES],
+    shares: &mut [u16; ENDS],
     room: &mut [u8; OBJECTS],
     takes: &[u8; CONSTRAINTS],
-    ends: &[u16; PLACES],
+    ends: &[u16; ENDS],
     head: &[u16; OBJECTS],
-    next: &[u16; PLACES],
+    next: &[u16; ENDS],
 ) -> Marks
     requires { ⌜ Placing m e (now ends) (now head) (now next) (now takes) (state (marks .objects) (now stuck) (now shares) (now room)) ⌝ }
     ensures { λ r. ⌜ Placed m e (now (ends .entry)) (now (takes .entry)) (state (marks .objects) (now (stuck .entry)) (now (shares .entry)) (now (room .entry))) (state (r .objects) (now (stuck .exit)) (now (shares .exit)) (now (room .exit))) ⌝ }
@@ -76,12 +76,12 @@ pub fn settle(
     m: usize,
     marks: Marks,
     stuck: &mut [u8; CONSTRAINTS],
-    shares: &mut [u16; PLACES],
+    shares: &mut [u16; ENDS],
     room: &mut [u8; OBJECTS],
     takes: &[u8; CONSTRAINTS],
-    ends: &[u16; PLACES],
+    ends: &[u16; ENDS],
     head: &[u16; OBJECTS],
-    next: &[u16; PLACES],
+    next: &[u16; ENDS],
 ) -> Marks
     requires { ⌜ Settling m (now ends) (now head) (now next) (now takes) (state (marks .objects) (now stuck) (now shares) (now room)) ⌝ }
     ensures { λ r. ⌜ Settled m (now (ends .entry)) (now (takes .entry)) (state (marks .objects) (now (stuck .entry)) (now (shares .entry)) (now (room .entry))) (state (r .objects) (now (stuck .exit)) (now (shares .exit)) (now (room .exit))) ⌝ }

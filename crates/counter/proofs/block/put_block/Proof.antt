@@ -3,7 +3,7 @@ use mathlib.Core.Path.{_∙_, ap}
 use mathlib.Core.List.{List, _++_}
 use Prim.Native.Nat.{ℕ}
 use native.Mathlib.Omega.{arith}
-use Rattle.drawing.specs.Fault.{mostObjects}
+use Rattle.limits.specs.Limits.{mostObjects}
 use Rattle.routes.specs.Arrays.{members}
 use Rattle.counter.specs.Outcome.{over}
 use Rattle.counter.specs.Block.{two, setBytes, block}

@@ -6,8 +6,8 @@ use native.Mathlib.Omega.{arith}
 use borrow.Author.Needs.{needs}
 use lib.Dec.{lit≤}
 use lib.ListN.{length, set, length-set}
-use Rattle.drawing.specs.Fault.{mostObjects}
-use Rattle.drawing.specs.Arrays.{listed}
+use Rattle.limits.specs.Limits.{mostObjects}
+use Rattle.drawing.specs.Arrays.{tabulated}
 use Rattle.routes.specs.Arrays.{members}
 use Rattle.counter.specs.Outcome.{over}
 use Rattle.counter.specs.Block.{setSize, setByte, setBytes}
@@ -16,13 +16,13 @@ use Rattle.counter.proofs.block.put_set.Statement.{statement}
 use Rattle.counter.proofs.block.put_set.Tie as tie
 
 abbrev Inv-loop : tie.InvT-loop
-Inv-loop marks part₀ j₀ part j = (part ≡ over (listed j (setByte mostObjects (members marks))) part₀) × (length part ≡ length part₀) × (j ≤ setSize)
+Inv-loop marks part₀ j₀ part j = (part ≡ over (tabulated j (setByte mostObjects (members marks))) part₀) × (length part ≡ length part₀) × (j ≤ setSize)
 
 abbrev μ-loop : tie.MeasureT-loop
 μ-loop marks part₀ j₀ part j = setSize - j
 
 loop-holds : tie.Need-loop-holds Inv-loop μ-loop
-unfolding listed
+unfolding tabulated
 loop-holds c = (refl, refl, lit≤ tt)
 
 set-byte-requires : tie.Need-set-byte-requires Inv-loop μ-loop
@@ -52,7 +52,7 @@ returns : tie.Need-returns Inv-loop μ-loop
 unfolding setBytes
 returns c =
     c .before .loop .inv .0
-    ∙ ap (λ (k : ℕ). over (listed k (setByte mostObjects (members (c .before .before .before .args .marks .now)))) (c .before .before .before .args .part .now)) sixteen
+    ∙ ap (λ (k : ℕ). over (tabulated k (setByte mostObjects (members (c .before .before .before .args .marks .now)))) (c .before .before .before .args .part .now)) sixteen
   where
     sixteen : c .before .loop .j ≡ setSize
     sixteen = omega arith

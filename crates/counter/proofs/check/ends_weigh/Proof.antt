@@ -2,7 +2,7 @@
 use mathlib.Core.Path.{_∙_, ap, ap₂}
 use Prim.Native.Nat.{_+_}
 use native.Mathlib.Omega.{arith}
-use Rattle.routes.specs.Limits.{at}
+use Rattle.routes.specs.At.{at}
 use borrow.Author.Needs.{needs}
 use Rattle.counter.proofs.check.ends_weigh.Statement.{statement}
 use Rattle.counter.proofs.check.ends_weigh.Tie as tie

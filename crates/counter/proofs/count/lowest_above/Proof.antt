@@ -3,14 +3,14 @@ use mathlib.Core.Bool.{true≢false, false≢true}
 use Prim.Native.Nat.{_-_}
 use native.Mathlib.Omega.{arith}
 use lib.IntN.{subℕ}
-use Rattle.routes.specs.Arrays.{net}
+use Rattle.routes.specs.Arrays.{netIn}
 use Rattle.counter.specs.Asked.{raise}
 use Rattle.counter.proofs.Counts.{NoneBelow, one-more, found-here}
 use Rattle.counter.proofs.count.lowest_above.Statement.{statement}
 use Rattle.counter.proofs.count.lowest_above.Tie as tie
 
 abbrev Inv-loop : tie.InvT-loop
-Inv-loop n m k ends weights takes from c₀ c = NoneBelow (net n m ends weights takes) (subℕ k raise) c
+Inv-loop n m k ends weights takes from c₀ c = NoneBelow (netIn n m ends weights takes) (subℕ k raise) c
 
 abbrev μ-loop : tie.MeasureT-loop
 μ-loop n m k ends weights takes from c₀ c = m - c

@@ -1,5 +1,5 @@
 -- `blank::no_constraints` meets its contract: an array of zeros is zero from its start on. Assumes nothing.
-use Rattle.drawing.specs.Fault.{mostConstraints}
+use Rattle.limits.specs.Limits.{mostConstraints}
 use Rattle.drawing.proofs.Stores.{blank}
 use Rattle.drawing.proofs.blank.no_constraints.Statement.{statement}
 use Rattle.drawing.proofs.blank.no_constraints.Tie as tie

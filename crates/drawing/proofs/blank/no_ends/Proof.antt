@@ -1,6 +1,6 @@
 -- `blank::no_ends` meets its contract: an array of zeros is zero from its start on. Assumes nothing.
 use Prim.Native.Nat.{_*_}
-use Rattle.drawing.specs.Fault.{mostConstraints}
+use Rattle.limits.specs.Limits.{mostConstraints}
 use Rattle.drawing.proofs.Stores.{blank}
 use Rattle.drawing.proofs.blank.no_ends.Statement.{statement}
 use Rattle.drawing.proofs.blank.no_ends.Tie as tie

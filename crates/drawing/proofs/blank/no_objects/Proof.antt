@@ -1,5 +1,5 @@
 -- `blank::no_objects` meets its contract: an array of zeros is zero from its start on. Assumes nothing.
-use Rattle.drawing.specs.Fault.{mostObjects}
+use Rattle.limits.specs.Limits.{mostObjects}
 use Rattle.drawing.proofs.Stores.{blank}
 use Rattle.drawing.proofs.blank.no_objects.Statement.{statement}
 use Rattle.drawing.proofs.blank.no_objects.Tie as tie

@@ -5,8 +5,8 @@ use native.Mathlib.Omega.{arith}
 use borrow.Author.Needs.{needs}
 use Rattle.drawing.specs.Table.{tableWeight}
 use Rattle.drawing.specs.Weight.{inForce}
-use Rattle.drawing.specs.Fault.{mostConstraints}
-use Rattle.drawing.specs.Weighed.{Filled, constraintValue}
+use Rattle.limits.specs.Limits.{mostConstraints}
+use Rattle.drawing.specs.WeightArrays.{Filled, constraintValue}
 use Rattle.drawing.proofs.Stores.{filled-none, filled-more, filled-all}
 use Rattle.drawing.proofs.weight.weigh_constraints.Statement.{statement}
 use Rattle.drawing.proofs.weight.weigh_constraints.Tie as tie

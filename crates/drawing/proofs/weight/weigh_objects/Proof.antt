@@ -4,8 +4,8 @@ use Prim.Native.Nat.{zero-le, _≤_, _-_}
 use native.Mathlib.Omega.{arith}
 use borrow.Author.Needs.{needs}
 use Rattle.drawing.specs.Weight.{inForce}
-use Rattle.drawing.specs.Fault.{mostObjects}
-use Rattle.drawing.specs.Weighed.{Filled, objectValue}
+use Rattle.limits.specs.Limits.{mostObjects}
+use Rattle.drawing.specs.WeightArrays.{Filled, objectValue}
 use Rattle.drawing.proofs.Stores.{filled-none, filled-more, filled-all}
 use Rattle.drawing.proofs.weight.weigh_objects.Statement.{statement}
 use Rattle.drawing.proofs.weight.weigh_objects.Tie as tie

@@ -7,7 +7,7 @@ use native.Mathlib.Omega.{arith}
 use borrow.Author.Needs.{needs}
 use borrow.Fn.Kinds.{In}
 use borrow.Fn.PlainCycle.{Measures, is, falls, and}
-use Rattle.routes.specs.Limits.{at}
+use Rattle.routes.specs.At.{at}
 use Rattle.routes.specs.State.{State, state, unmarked}
 use Rattle.routes.proofs.Small.{positive, below-same}
 use Rattle.routes.proofs.Both.{both-small, both-falls, first-asks, first-small, first-falls, first-found, second-asks, both-count-small, both-searched}

@@ -5,7 +5,7 @@ use borrow.Author.Tests.{eqb-true, eqb-false}
 use native.Mathlib.Omega.{arith}
 use lib.Dec.{T}
 use mathlib.Core.Path.{subst, sym}
-use Rattle.routes.specs.Limits.{at}
+use Rattle.routes.specs.At.{at}
 use Rattle.routes.proofs.Small.{positive}
 use Rattle.routes.proofs.search.waiting.Statement.{statement}
 use Rattle.routes.proofs.search.waiting.Tie as tie

@@ -2,8 +2,8 @@
 use Prim.Native.Nat.{_-_, _<_}
 use native.Mathlib.Omega.{arith}
 use borrow.Author.Tests.{not-true, not-false}
-use Rattle.routes.specs.Limits.{at}
-use Rattle.routes.specs.State.{State, state, total}
+use Rattle.routes.specs.At.{at}
+use Rattle.routes.specs.State.{State, state, bothShares}
 use Rattle.routes.proofs.Small.{some-left}
 use Rattle.routes.proofs.Placing.{Going, going-start, going-asks, going-left, going-less, going-on, going-stuck, going-end}
 use Rattle.routes.proofs.settle.place.Statement.{statement}
@@ -14,17 +14,17 @@ Inv-loop m e marks stuck₀ shares₀ room₀ takes ends head next stuck shares 
     Going m e ends takes (state (marks .objects) stuck₀ shares₀ room₀) (state (marks .objects) stuck shares room)
 
 abbrev μ-loop : tie.MeasureT-loop
-μ-loop m e marks stuck₀ shares₀ room₀ takes ends head next stuck shares room = at takes e - total shares e
+μ-loop m e marks stuck₀ shares₀ room₀ takes ends head next stuck shares room = at takes e - bothShares shares e
 
 -- the state after a search
 abbrev after : tie.After-from-constraint Inv-loop μ-loop → State
 after c = state (c .from-constraint .result .marks .objects) (c .from-constraint .last .1 .1 .1 .0) (c .from-constraint .last .1 .1 .1 .1 .0) (c .from-constraint .last .1 .1 .1 .1 .1 .0)
 
 -- where the loop's test held, e has weight left
-has-left : (c : tie.Then1 Inv-loop μ-loop) → let l = c .before .before .before in let a = l .before .args in total (l .loop .shares) (a .e) < at (a .takes .now) (a .e)
+has-left : (c : tie.Then1 Inv-loop μ-loop) → let l = c .before .before .before in let a = l .before .args in bothShares (l .loop .shares) (a .e) < at (a .takes .now) (a .e)
 has-left c =
     let l = c .before .before .before in let a = l .before .args in
-    some-left (c .before .left .result) (total (l .loop .shares) (a .e)) (at (a .takes .now) (a .e)) (c .before .left .ensures) (c .if1 .taken)
+    some-left (c .before .left .result) (bothShares (l .loop .shares) (a .e)) (at (a .takes .now) (a .e)) (c .before .left .ensures) (c .if1 .taken)
 
 loop-holds : tie.Need-loop-holds Inv-loop μ-loop
 loop-holds c = going-start (c .pre)

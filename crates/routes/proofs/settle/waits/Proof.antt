@@ -4,8 +4,8 @@ use native.Mathlib.Omega.{arith}
 use borrow.Author.Needs.{needs}
 use borrow.Author.Tests.{eqb-true, eqb-false}
 use lib.Dec.{T}
-use Rattle.routes.specs.Limits.{at}
-use Rattle.routes.specs.State.{total}
+use Rattle.routes.specs.At.{at}
+use Rattle.routes.specs.State.{bothShares}
 use Rattle.routes.proofs.Small.{positive, some-left}
 use Rattle.routes.proofs.settle.waits.Statement.{statement}
 use Rattle.routes.proofs.settle.waits.Tie as tie
@@ -20,7 +20,7 @@ returns : tie.Need-returns
 returns c =
     let a = c .before .before .before .args in
     record {
-      yes = λ e. (some-left (c .before .before .left .result) (total (a .shares .now) (a .e)) (at (a .takes .now) (a .e)) (c .before .before .left .ensures) (c .before .if1 .taken), eqb-true (at (a .stuck .now) (a .e)) 0 e);
+      yes = λ e. (some-left (c .before .before .left .result) (bothShares (a .shares .now) (a .e)) (at (a .takes .now) (a .e)) (c .before .before .left .ensures) (c .before .if1 .taken), eqb-true (at (a .stuck .now) (a .e)) 0 e);
       no = λ e _. positive (at (a .stuck .now) (a .e)) (eqb-false (at (a .stuck .now) (a .e)) 0 e);
     }
 

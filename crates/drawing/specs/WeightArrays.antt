@@ -4,7 +4,7 @@ use mathlib.Core.List.{List}
 use Prim.Native.Nat.{ℕ, _+_, _*_, _<_}
 use lib.ListN.{getD}
 use Rattle.drawing.specs.Table.{objectTable, tableWeight}
-use Rattle.drawing.specs.Fault.{mostObjects, mostConstraints}
+use Rattle.limits.specs.Limits.{mostObjects, mostConstraints}
 use Rattle.drawing.specs.Weight.{inForce, objectWeight, constraintWeight}
 use Rattle.drawing.specs.Arrays.{Arrays, drawingIn, ZeroFrom}
 
@@ -23,6 +23,6 @@ constraintValue ends objectKinds kinds stated e =
     (tableWeight (getD kinds e 0) (getD objectKinds (getD ends (2 * e) 0) 0) (getD objectKinds (getD ends (2 * e + 1) 0) 0))
 
 -- the weights in force of the drawing in the arrays, zero past the counts
-pub record Weighed (a : Arrays) (n m : ℕ) (objects constraints : List ℕ) : Type 0 where
+pub record WeightsIn (a : Arrays) (n m : ℕ) (objects constraints : List ℕ) : Type 0 where
   pub object-weights : Filled mostObjects n (objectWeight (drawingIn a n m)) objects
   pub constraint-weights : Filled mostConstraints m (constraintWeight (drawingIn a n m)) constraints
