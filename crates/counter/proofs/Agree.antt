@@ -8,11 +8,11 @@ use lib.IntN.{ℤ}
 use lib.ListN.{length, drop}
 use lib.Signed.{clashℤ}
 use Rattle.density.specs.Top.{LowestAbove, NoneAt}
-use Rattle.density.proofs.One.{answers-agree, lowest-one}
+use Rattle.density.proofs.OneAnswer.{answers-agree, lowest-one}
 use Rattle.drawing.specs.Entry.{Drawing}
-use Rattle.drawing.specs.Read.{Reading, refused, accepted, read}
+use Rattle.drawing.specs.Read.{Reading, refused, accepted}
 use Rattle.counter.specs.Weighed.{weighed}
-use Rattle.counter.specs.Outcome.{Outcome, answered, Question, Unless, Judged, Fits, over, Answers, Replies}
+use Rattle.counter.specs.Outcome.{Outcome, answered, Question, Unless, Fits, over, Answers, Replies}
 use Rattle.counter.specs.Question.{lookOver, oneConstraint, anyDense, sheetFor, check, BlockOf, SheetOf}
 use Rattle.counter.proofs.Blocks.{block-same}
 use lib.Seq.{drop-at}
@@ -23,19 +23,16 @@ abbrev pub Determines : {A : Type 0} → (Outcome → A) → Question → Type 0
 Determines part q = (d : Drawing) (o p : Outcome) → q .answer d o → q .answer d p → part o ≡ part p
 
 module _ {A : Type 0} (part : Outcome → A) (q : Question) (determined : Determines part q) where
-  judged-agree : (r : Reading) (o p : Outcome) → Judged q r o → Judged q r p → part o ≡ part p
-  judged-agree (refused n) o p x y = ap part (x ∙ sym y)
-  judged-agree (accepted d) o p x y = go (q .fault d) x y
+  pub outcomes-agree : (r : Reading) (o p : Outcome) → Fits q r o → Fits q r p → part o ≡ part p
+  outcomes-agree (refused n) o p x y = ap part (x ∙ sym y)
+  outcomes-agree (accepted d) o p x y = go (q .fault d) x y
     where
       go : (n : ℕ) → Unless n o (q .answer d o) → Unless n p (q .answer d p) → part o ≡ part p
       go zero x y = determined d o p x y
       go (suc n) x y = ap part (x ∙ sym y)
 
-  pub outcomes-agree : (s : List ℕ) (o p : Outcome) → Fits q s o → Fits q s p → part o ≡ part p
-  outcomes-agree s = judged-agree (read s)
-
 -- where q determines the outcome, two results that both fit the statement agree in the code and in every byte of the buffer
-pub results-agree : (q : Question) → Determines (λ o. o) q → (s : List ℕ) (r₁ r₂ : ℕ) (before after₁ after₂ : List ℕ)
+pub results-agree : (q : Question) → Determines (λ o. o) q → (s : Reading) (r₁ r₂ : ℕ) (before after₁ after₂ : List ℕ)
     → Answers q s r₁ before after₁ → Answers q s r₂ before after₂ → (r₁ ≡ r₂) × (after₁ ≡ after₂)
 results-agree q determined s r₁ r₂ before after₁ after₂ a b = (
   a .result-is ∙ ap (λ (o : Outcome). o .code) same ∙ sym (b .result-is),
@@ -92,10 +89,10 @@ sheet-determines-size c room d o p x y = size x ∙ sym (size y)
     size z = ap sizeOf (z .is) ∙ ap (λ (n : ℕ). record { code = 0; long = n }) (z .long)
 
 -- every byte behind the sheet is as it was
-pub sheet-behind : (c : ℕ) {s : List ℕ} {r : ℕ} {before after : List ℕ} → Answers (sheetFor c (length before)) s r before after
-    → (d : Drawing) → read s ≡ accepted d → drop (sheetSize (length (d .constraints))) after ≡ drop (sheetSize (length (d .constraints))) before
+pub sheet-behind : (c : ℕ) {s : Reading} {r : ℕ} {before after : List ℕ} → Answers (sheetFor c (length before)) s r before after
+    → (d : Drawing) → s ≡ accepted d → drop (sheetSize (length (d .constraints))) after ≡ drop (sheetSize (length (d .constraints))) before
 sheet-behind c {before = before} {after = after} a d is =
-    go (sheetFor c (length before) .fault d) (subst (λ (x : Reading). Judged (sheetFor c (length before)) x (a .outcome)) is (a .fits))
+    go (sheetFor c (length before) .fault d) (subst (λ (x : Reading). Fits (sheetFor c (length before)) x (a .outcome)) is (a .fits))
   where
     m : ℕ
     m = length (d .constraints)
@@ -109,27 +106,27 @@ sheet-behind c {before = before} {after = after} a d is =
 
 -- ---- two results of a call agree
 
-pub look-over-agrees : {s before after₁ after₂ : List ℕ} {r₁ r₂ : ℕ} → Answers (lookOver (length before)) s r₁ before after₁
+pub look-over-agrees : {s : Reading} {before after₁ after₂ : List ℕ} {r₁ r₂ : ℕ} → Answers (lookOver (length before)) s r₁ before after₁
     → Answers (lookOver (length before)) s r₂ before after₂ → (r₁ ≡ r₂) × (after₁ ≡ after₂)
 look-over-agrees {s} {before} {after₁} {after₂} {r₁} {r₂} =
     results-agree (lookOver (length before)) (look-over-determines (length before)) s r₁ r₂ before after₁ after₂
 
-pub one-constraint-agrees : (c : ℕ) {s before after₁ after₂ : List ℕ} {r₁ r₂ : ℕ} → Answers (oneConstraint c (length before)) s r₁ before after₁
+pub one-constraint-agrees : (c : ℕ) {s : Reading} {before after₁ after₂ : List ℕ} {r₁ r₂ : ℕ} → Answers (oneConstraint c (length before)) s r₁ before after₁
     → Answers (oneConstraint c (length before)) s r₂ before after₂ → (r₁ ≡ r₂) × (after₁ ≡ after₂)
 one-constraint-agrees c {s} {before} {after₁} {after₂} {r₁} {r₂} =
     results-agree (oneConstraint c (length before)) (one-constraint-determines c (length before)) s r₁ r₂ before after₁ after₂
 
-pub any-dense-agrees : (k : ℤ) {s before after₁ after₂ : List ℕ} {r₁ r₂ : ℕ} → Answers (anyDense k (length before)) s r₁ before after₁
+pub any-dense-agrees : (k : ℤ) {s : Reading} {before after₁ after₂ : List ℕ} {r₁ r₂ : ℕ} → Answers (anyDense k (length before)) s r₁ before after₁
     → Answers (anyDense k (length before)) s r₂ before after₂ → (r₁ ≡ r₂) × (after₁ ≡ after₂)
 any-dense-agrees k {s} {before} {after₁} {after₂} {r₁} {r₂} =
     results-agree (anyDense k (length before)) (any-dense-determines k (length before)) s r₁ r₂ before after₁ after₂
 
-pub check-agrees : (c : ℕ) (b : List ℕ) (z : ℤ) {s : List ℕ} {r₁ r₂ : ℕ} → Replies (check c b z) s r₁ → Replies (check c b z) s r₂ → r₁ ≡ r₂
+pub check-agrees : (c : ℕ) (b : List ℕ) (z : ℤ) {s : Reading} {r₁ r₂ : ℕ} → Replies (check c b z) s r₁ → Replies (check c b z) s r₂ → r₁ ≡ r₂
 check-agrees c b z {s} {r₁} {r₂} x y = results-agree (check c b z) (check-determines c b z) s r₁ r₂ [] [] [] x y .0
 
 -- the sheet: the code, and every byte behind the sheet
-pub sheet-agrees : (c : ℕ) {s before after₁ after₂ : List ℕ} {r₁ r₂ : ℕ} → Answers (sheetFor c (length before)) s r₁ before after₁
-    → Answers (sheetFor c (length before)) s r₂ before after₂ → (d : Drawing) → read s ≡ accepted d
+pub sheet-agrees : (c : ℕ) {s : Reading} {before after₁ after₂ : List ℕ} {r₁ r₂ : ℕ} → Answers (sheetFor c (length before)) s r₁ before after₁
+    → Answers (sheetFor c (length before)) s r₂ before after₂ → (d : Drawing) → s ≡ accepted d
     → (r₁ ≡ r₂) × (drop (sheetSize (length (d .constraints))) after₁ ≡ drop (sheetSize (length (d .constraints))) after₂)
 sheet-agrees c {s} {before} x y d is = (
   x .result-is

@@ -9,11 +9,10 @@ use borrow.Author.Tests.{ltb-true, lt-ltb}
 use lib.Dec.{ltb}
 use lib.IntN.{ℤ}
 use Rattle.density.specs.Sum.{counted}
-use Rattle.density.specs.Net.{Set}
+use Rattle.density.specs.Net.{Set, Alike}
 use Rattle.density.proofs.Sums.{sum-same}
-use Rattle.density.proofs.Alike.{Alike}
 use Rattle.limits.specs.Limits.{mostObjects}
-use Rattle.drawing.proofs.Listed.{listed-same, below-or-past}
+use Rattle.drawing.proofs.Tabulated.{tabulated-same, below-or-past}
 use Rattle.counter.specs.Block.{setByte, setBytes, setSize, block, two, complement}
 
 -- a test that is looked at below n alone
@@ -27,7 +26,7 @@ masked n S R h v = go (ltb v n) refl
 pub set-bytes-same : (n : ℕ) (S R : Set) → Alike n S R → setBytes n S ≡ setBytes n R
 unfolding setBytes setByte
 set-bytes-same n S R h =
-    listed-same setSize (setByte n S) (setByte n R)
+    tabulated-same setSize (setByte n S) (setByte n R)
     (λ j _.
     sum-same 8 (λ b. counted (ltb (8 * j + b) n && S (8 * j + b)) (2 ^ b)) (λ b. counted (ltb (8 * j + b) n && R (8 * j + b)) (2 ^ b))
     (λ b _. ap (λ (t : Bool). counted t (2 ^ b)) (masked n S R h (8 * j + b))))
@@ -41,7 +40,7 @@ pub block-within : (n c : ℕ) (t : ℤ) (S : Set) → n ≤ mostObjects → ((v
 unfolding block setBytes setByte
 block-within n c t S few past =
     ap (λ (l : List ℕ). two c ++ two (complement t) ++ l)
-    (listed-same setSize (setByte mostObjects S) (setByte n S)
+    (tabulated-same setSize (setByte mostObjects S) (setByte n S)
     (λ j _.
     sum-same 8 (λ b. counted (ltb (8 * j + b) mostObjects && S (8 * j + b)) (2 ^ b)) (λ b. counted (ltb (8 * j + b) n && S (8 * j + b)) (2 ^ b))
     (λ b _. ap (λ (x : Bool). counted x (2 ^ b)) (same (8 * j + b)))))

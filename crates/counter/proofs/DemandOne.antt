@@ -8,15 +8,15 @@ use native.Mathlib.Omega.{arith}
 use lib.IntN.{ℤ}
 use Rattle.drawing.specs.Entry.{Drawing}
 use Rattle.drawing.specs.Read.{Reading, refused, accepted, read}
-use Rattle.counter.specs.Outcome.{Outcome, says, Question, Unless, Judged, over, Answers, firstFault}
+use Rattle.counter.specs.Outcome.{Outcome, says, Question, Unless, Fits, over, Answers, firstFault}
 use Rattle.counter.specs.Question.{oneConstraint, anyDense, sheetFor, check, lookOver}
-use Rattle.drawing.proofs.Refusals.{refused-number}
+use Rattle.drawing.proofs.Reading.{refused-number}
 
 -- where nothing is amiss, an answer has code 0, or code k and no bytes
 abbrev pub Besides : ℕ → Question → Type 0
 Besides k q = (d : Drawing) (o : Outcome) → q .answer d o → (o .code ≡ 0) ⊎ (o ≡ says k)
 
-module _ (q : Question) {s : List ℕ} {r : ℕ} {before after : List ℕ} (a : Answers q s r before after) where
+module _ (q : Question) (s : List ℕ) {r : ℕ} {before after : List ℕ} (a : Answers q (read s) r before after) where
   -- an outcome with a code alone: the result is the code, and every byte is as it was
   said : (n : ℕ) → a .outcome ≡ says n → (r ≡ n) × (after ≡ before)
   said n e = (a .result-is ∙ ap (λ (o : Outcome). o .code) e, a .after-is ∙ ap (λ (o : Outcome). over (o .bytes) before) e)
@@ -33,7 +33,7 @@ module _ (q : Question) {s : List ℕ} {r : ℕ} {before after : List ℕ} (a : 
       asked d is zero e u = answered-for d is e u
       asked d is (suc f) e u = refused-with (suc f) (ap (firstFault q) is ∙ e) (omega arith) u
 
-      go : (x : Reading) → read s ≡ x → Judged q x (a .outcome) → Came
+      go : (x : Reading) → read s ≡ x → Fits q x (a .outcome) → Came
       go (refused n) is u = refused-with n (ap (firstFault q) is) (refused-number s n is .least) u
       go (accepted d) is u = asked d is (q .fault d) refl u
 

@@ -6,8 +6,6 @@ use mathlib.Core.Logic.{_↔_, _⊎_, inl, inr}
 use mathlib.Core.List.{List, _++_}
 use Prim.Native.Nat.{ℕ, suc, _<_, zero, _≤_}
 use native.Mathlib.Omega.{arith}
-use borrow.Author.Tests.{leb-false, lt-leb, le-ltb}
-use lib.Dec.{leb, lit<, ltb, lit≤}
 use lib.IntN.{ℤ}
 use lib.ListN.{length, drop, length-append}
 use lib.Signed.{clashℤ}
@@ -15,86 +13,43 @@ use Rattle.density.specs.Net.{Side}
 use Rattle.density.specs.Top.{Bound, Top, AnswerSet, NoSetAbove, LowestAbove}
 use Rattle.density.specs.Sheet.{claim}
 use Rattle.density.proofs.Shares.{sheet-bounds, sound-same, claim-same}
-use Rattle.density.proofs.One.{tops-agree, none-no-set}
+use Rattle.density.proofs.OneAnswer.{tops-agree, none-no-set}
 use Rattle.drawing.specs.Entry.{Drawing}
-use Rattle.drawing.specs.Read.{Reading, accepted, read}
+use Rattle.drawing.specs.Read.{accepted, read}
 use Rattle.counter.specs.Weighed.{weighed, Within}
 use Rattle.counter.specs.Block.{blockSize, numberIn, densityIn, setIn}
 use Rattle.counter.specs.Sheet.{sheetSize, sheetIn}
-use Rattle.counter.specs.Outcome.{Outcome, says, Question, Unless, Judged, over, Answers, Replies}
-use Rattle.counter.specs.Question.{roomFault, constraintFault, oneConstraint, anyDense, sheetFor, check, LowestBlock, NoBlock, SheetOf, Shows, rangeFault}
-use Rattle.drawing.proofs.Passed.{passed}
-use Rattle.counter.proofs.Ready.{accepted-within}
-use mathlib.Core.Bool.{Bool, true, false, not}
-use Rattle.drawing.specs.Choice.{pick}
-use Rattle.counter.specs.Range.{inRange}
-use Rattle.counter.proofs.Buffers.{sheet-front, block-says}
-
--- where c is not faulty, it names a constraint
-pub in-drawing : (d : Drawing) (c rest : ℕ) → constraintFault d c rest ≡ 0 → c < length (d .constraints)
-in-drawing d c rest e = leb-false (length (d .constraints)) c (passed (leb (length (d .constraints)) c) 11 rest (lit< tt) e .failed)
-
--- a call that is not refused: nothing asked was amiss, and its outcome answers the question
-pub unrefused : (q : Question) {s : List ℕ} {r : ℕ} {before after : List ℕ} (a : Answers q s r before after) (d : Drawing) → read s ≡ accepted d
-    → (r ≡ 0) ⊎ (32 ≤ r) → q .fault d ≤ 12 → (q .fault d ≡ 0) × q .answer d (a .outcome)
-unrefused q {s} {r} a d is code small = go (q .fault d) refl (subst (λ (x : Reading). Judged q x (a .outcome)) is (a .fits))
-  where
-    go : (f : ℕ) → q .fault d ≡ f → Unless f (a .outcome) (q .answer d (a .outcome)) → (q .fault d ≡ 0) × q .answer d (a .outcome)
-    go zero e u = (e, u)
-    go (suc f) e u = absurd (clash code)
-      where
-        r-is : r ≡ suc f
-        r-is = a .result-is ∙ ap (λ (o : Outcome). o .code) u
-
-        clash : (r ≡ 0) ⊎ (32 ≤ r) → ⊥
-        clash (inl z) = omega (arith, r-is)
-        clash (inr z) = omega (arith, r-is)
-
--- a faultless call has an outcome that answers the question
-faultless-answered : (q : Question) {s : List ℕ} {r : ℕ} {before after : List ℕ} (a : Answers q s r before after) (d : Drawing) → read s ≡ accepted d
-    → q .fault d ≡ 0 → q .answer d (a .outcome)
-faultless-answered q a d is f =
-    subst (λ (k : ℕ). Unless k (a .outcome) (q .answer d (a .outcome))) f (subst (λ (x : Reading). Judged q x (a .outcome)) is (a .fits))
+use Rattle.counter.specs.Fault.{roomFault, numberFault}
+use Rattle.counter.specs.Outcome.{Outcome, says, over, Answers, Replies}
+use Rattle.counter.specs.Question.{oneConstraint, anyDense, sheetFor, check, LowestBlock, NoBlock, SheetOf, Shows}
+use Rattle.counter.proofs.Nets.{accepted-within}
+use Rattle.counter.proofs.Faults.{room-there, number-there, number-names, number-low, range-low}
+use Rattle.counter.proofs.Outcomes.{unrefused, faultless-answered}
+use Rattle.counter.proofs.ReadBack.{sheet-front, block-says}
 
 -- no fault where c names a constraint and there is room
-no-fault : (d : Drawing) (c room need : ℕ) → c < length (d .constraints) → need ≤ room → constraintFault d c (roomFault room need) ≡ 0
-unfolding pick
-no-fault d c room need l h = ap (λ b. pick b 11 (roomFault room need)) (lt-leb (length (d .constraints)) c l) ∙ ap (λ b. pick b 12 0) (le-ltb room need h)
-
--- the faults of what is asked are 10, 11 and 12
-small : (b : Bool) (x y : ℕ) → x ≤ 12 → y ≤ 12 → pick b x y ≤ 12
-unfolding pick
-small true x y h k = h
-small false x y h k = k
-
-room-small : (room need : ℕ) → roomFault room need ≤ 12
-room-small room need = small (ltb room need) 12 0 (lit≤ tt) (lit≤ tt)
-
-pub constraint-small : (d : Drawing) (c room need : ℕ) → constraintFault d c (roomFault room need) ≤ 12
-constraint-small d c room need = small (leb (length (d .constraints)) c) 11 (roomFault room need) (lit≤ tt) (room-small room need)
-
-range-small : (k : ℤ) (room need : ℕ) → rangeFault k (roomFault room need) ≤ 12
-range-small k room need = small (not (inRange k)) 10 (roomFault room need) (lit≤ tt) (room-small room need)
+no-fault : (m c room need : ℕ) → c < m → need ≤ room → numberFault m c (roomFault room need) ≡ 0
+no-fault m c room need l h = number-there m c (roomFault room need) l ∙ room-there room need h
 
 module _ (s : List ℕ) (d : Drawing) (is : read s ≡ accepted d) where
   within : Within d
   within = accepted-within s d is
 
-  m : ℕ
+  abbrev m : ℕ
   m = length (d .constraints)
 
   -- one constraint: the block says c, its top density and its answer set
-  pub one-constraint-says : (c : ℕ) {before after : List ℕ} → Answers (oneConstraint c (length before)) s 0 before after
+  pub one-constraint-says : (c : ℕ) {before after : List ℕ} → Answers (oneConstraint c (length before)) (read s) 0 before after
       → (numberIn after ≡ c) × AnswerSet (weighed d) c (densityIn after) (setIn after)
   one-constraint-says c {before} {after} a =
-      let x = unrefused (oneConstraint c (length before)) a d is (inl refl) (constraint-small d c (length before) blockSize) in
-      block-says d within c (in-drawing d c (roomFault (length before) blockSize) (x .0)) (a .outcome) (x .1) before after (a .after-is)
+      let x = unrefused (oneConstraint c (length before)) a d is (inl refl) (number-low m c (length before) blockSize) in
+      block-says d within c (number-names m c (roomFault (length before) blockSize) (x .0)) (a .outcome) (x .1) before after (a .after-is)
 
   -- any dense: where it is answered, the block is that of the lowest-numbered constraint whose top density is above K
-  pub any-dense-says : (k : ℤ) {before after : List ℕ} → Answers (anyDense k (length before)) s 0 before after
+  pub any-dense-says : (k : ℤ) {before after : List ℕ} → Answers (anyDense k (length before)) (read s) 0 before after
       → LowestAbove (weighed d) k (numberIn after) × AnswerSet (weighed d) (numberIn after) (densityIn after) (setIn after)
   unfolding weighed
-  any-dense-says k {before} {after} a = go (unrefused (anyDense k (length before)) a d is (inl refl) (range-small k (length before) blockSize) .1)
+  any-dense-says k {before} {after} a = go (unrefused (anyDense k (length before)) a d is (inl refl) (range-low k (length before) blockSize) .1)
     where
       Says : ℕ → Type 0
       Says c = LowestAbove (weighed d) k c × AnswerSet (weighed d) c (densityIn after) (setIn after)
@@ -106,9 +61,9 @@ module _ (s : List ℕ) (d : Drawing) (is : read s ≡ accepted d) where
       go (inr b) = absurd (omega (arith, a .result-is, ap (λ (p : Outcome). p .code) (b .is)))
 
   -- any dense: none exactly when no set that holds a constraint has density above K
-  pub none-exactly : (k : ℤ) {r : ℕ} {before after : List ℕ} → Answers (anyDense k (length before)) s r before after → (r ≡ 0) ⊎ (32 ≤ r)
+  pub none-exactly : (k : ℤ) {r : ℕ} {before after : List ℕ} → Answers (anyDense k (length before)) (read s) r before after → (r ≡ 0) ⊎ (32 ≤ r)
       → (r ≡ 32) ↔ NoSetAbove (weighed d) k
-  none-exactly k {r} {before} a unref = go (unrefused (anyDense k (length before)) a d is unref (range-small k (length before) blockSize) .1)
+  none-exactly k {r} {before} a unref = go (unrefused (anyDense k (length before)) a d is unref (range-low k (length before) blockSize) .1)
     where
       go : LowestBlock d k (a .outcome) ⊎ NoBlock d k (a .outcome) → (r ≡ 32) ↔ NoSetAbove (weighed d) k
       go (inl b) = (
@@ -121,27 +76,27 @@ module _ (s : List ℕ) (d : Drawing) (is : read s ≡ accepted d) where
           (λ _. none-no-set (weighed d) (within .proper) k .0 (b .none), λ _. a .result-is ∙ ap (λ (p : Outcome). p .code) (b .is))
 
   -- check: a sheet that is accepted for a claim bounds every set that holds the constraint
-  pub accepted-bounds : (c : ℕ) (b : List ℕ) (z : ℤ) → Replies (check c b z) s 0 → Bound (weighed d) c z
-  unfolding weighed m
+  pub accepted-bounds : (c : ℕ) (b : List ℕ) (z : ℤ) → Replies (check c b z) (read s) 0 → Bound (weighed d) c z
+  unfolding weighed
   accepted-bounds c b z a = go (x .1)
     where
       x : (check c b z .fault d ≡ 0) × ((Shows d c b z × (a .outcome ≡ says 0)) ⊎ ((Shows d c b z → ⊥) × (a .outcome ≡ says 33)))
-      x = unrefused (check c b z) a d is (inl refl) (constraint-small d c (length b) (sheetSize m))
+      x = unrefused (check c b z) a d is (inl refl) (number-low m c (length b) (sheetSize m))
 
       go : (Shows d c b z × (a .outcome ≡ says 0)) ⊎ ((Shows d c b z → ⊥) × (a .outcome ≡ says 33)) → Bound (weighed d) c z
       go (inl (y, e)) =
           subst (λ (t : ℤ). Bound (weighed d) c t) (y .claims)
-          (sheet-bounds (weighed d) (within .proper) c (in-drawing d c (roomFault (length b) (sheetSize m)) (x .0)) (sheetIn b) (y .sound))
+          (sheet-bounds (weighed d) (within .proper) c (number-names m c (roomFault (length b) (sheetSize m)) (x .0)) (sheetIn b) (y .sound))
       go (inr (y, e)) = absurd (omega (arith, a .result-is, ap (λ (p : Outcome). p .code) e))
 
   -- the sheet question's own sheet, in the buffer as it is left, is accepted by the check with the top density as its claim
-  pub own-sheet-accepted : (c : ℕ) {before after : List ℕ} → Answers (sheetFor c (length before)) s 0 before after
-      → (z : ℤ) → Top (weighed d) c z → {r : ℕ} → Replies (check c after z) s r → r ≡ 0
-  unfolding weighed m
+  pub own-sheet-accepted : (c : ℕ) {before after : List ℕ} → Answers (sheetFor c (length before)) (read s) 0 before after
+      → (z : ℤ) → Top (weighed d) c z → {r : ℕ} → Replies (check c after z) (read s) r → r ≡ 0
+  unfolding weighed
   own-sheet-accepted c {before} {after} a z top {r} checked = go (faultless-answered (check c after z) checked d is fine)
     where
       x : (sheetFor c (length before) .fault d ≡ 0) × SheetOf d c (a .outcome)
-      x = unrefused (sheetFor c (length before)) a d is (inl refl) (constraint-small d c (length before) (sheetSize m))
+      x = unrefused (sheetFor c (length before)) a d is (inl refl) (number-low m c (length before) (sheetSize m))
 
       own : List ℕ
       own = x .1 .bytes
@@ -156,7 +111,7 @@ module _ (s : List ℕ) (d : Drawing) (is : read s ≡ accepted d) where
       long = subst (λ (l : List ℕ). sheetSize m ≤ length l) (sym after-is) (omega (arith, length-append own behind, x .1 .long))
 
       fine : check c after z .fault d ≡ 0
-      fine = no-fault d c (length after) (sheetSize m) (in-drawing d c (roomFault (length before) (sheetSize m)) (x .0)) long
+      fine = no-fault m c (length after) (sheetSize m) (number-names m c (roomFault (length before) (sheetSize m)) (x .0)) long
 
       same : (i : Side) (e : ℕ) → e < m → sheetIn own i e ≡ sheetIn after i e
       same i e l = subst (λ (b : List ℕ). sheetIn own i e ≡ sheetIn b i e) (sym after-is) (sheet-front m own behind (x .1 .long) i e l)

@@ -1,16 +1,14 @@
-pub mod Blocks
-pub mod Agree
-pub mod Decode
+-- the published theorems, and what other crates cite
+pub mod Nets
 pub mod Sizes
-pub mod Ready
-pub mod Counts
-pub mod Putting
-pub mod Entries
-pub mod Buffers
+pub mod Outcomes
+pub mod ReadBack
+pub mod Statements
+pub mod Agree
 pub mod DemandOne
 pub mod DemandTwo
 pub mod DemandThree
-pub mod Asking
-pub mod Sheets
-pub mod Adding
-pub mod Checks
+-- what the proofs of this crate share
+mod SignedK
+mod Faults
+mod Blocks

@@ -1,27 +1,35 @@
 -- Densities of an accepted drawing fit 16 bits. Assumes nothing.
-use mathlib.Core.Path.{sym}
-use Prim.Native.Nat.{ℕ, zero, suc, _*_, _≤_, _<_}
+use mathlib.Core.Path.{_≡_, sym}
+use Prim.Native.Nat.{ℕ, zero, suc, _+_, _*_, _≤_, _<_}
 use native.Mathlib.Omega.{arith}
-use lib.IntN.{ℤ}
+use lib.IntN.{ℤ, subℕ}
 use lib.ListN.{length}
 use Rattle.density.specs.Sum.{sum, counted}
 use Rattle.density.specs.Net.{Set, holds}
 use Rattle.density.specs.Density.{takenBy, free, density}
 use Rattle.density.specs.Top.{Top}
 use Rattle.density.proofs.Sums.{counted-le}
+use Rattle.limits.specs.Limits.{mostObjects, mostConstraints, mostWeight}
 use Rattle.drawing.specs.Entry.{Drawing}
 use Rattle.drawing.specs.Weight.{constraintWeight}
 use Rattle.counter.specs.Weighed.{weightOf, weighed, Within}
-use Rattle.counter.proofs.Decode.{Short}
 
--- k terms of at most 15
-pub sum-light : (k : ℕ) (f : ℕ → ℕ) → ((i : ℕ) → i < k → f i ≤ 15) → sum k f ≤ 15 * k
+-- a density that 16 bits hold
+pub record Short (t : ℤ) : Type 0 where
+  pub more : ℕ
+  pub less : ℕ
+  pub is : t ≡ subℕ more less
+  pub high : more < 32768
+  pub low : less ≤ 32768 + more
+
+-- k weights
+pub sum-light : (k : ℕ) (f : ℕ → ℕ) → ((i : ℕ) → i < k → f i ≤ mostWeight) → sum k f ≤ mostWeight * k
 unfolding sum
 sum-light zero f h = omega arith
 sum-light (suc k) f h = omega (arith, sum-light k f (λ i l. h i (omega arith)), h k (omega arith))
 
 module _ (d : Drawing) (within : Within d) where
-  pub taken-small : (S : Set) → takenBy (weighed d) S ≤ 7680
+  pub taken-small : (S : Set) → takenBy (weighed d) S ≤ mostWeight * mostConstraints
   unfolding takenBy weighed
   taken-small S =
       omega (
@@ -31,7 +39,7 @@ module _ (d : Drawing) (within : Within d) where
             (λ e l. omega (arith, counted-le (holds (weighed d) S e) (constraintWeight d e), within .light-constraints e l)),
       )
 
-  pub free-small : (S : Set) → free (weighed d) S ≤ 1920
+  pub free-small : (S : Set) → free (weighed d) S ≤ mostWeight * mostObjects
   unfolding free weighed
   free-small S =
       omega (

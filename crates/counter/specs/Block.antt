@@ -8,7 +8,8 @@ use lib.ListN.{getD}
 use lib.IntN.{ℤ, pos, negsuc}
 use Rattle.density.specs.Sum.{sum, counted}
 use Rattle.density.specs.Net.{Set}
-use Rattle.drawing.specs.Arrays.{tabulated}
+use Rattle.limits.specs.Limits.{mostObjects}
+use Rattle.drawing.specs.Tabulated.{tabulated}
 use Rattle.drawing.specs.Format.{twoAt}
 
 -- "All numbers are little-endian": a number in two bytes
@@ -20,12 +21,15 @@ unfoldable pub complement : ℤ → ℕ
 complement (pos n) = n % 65536
 complement (negsuc n) = 65535 - n % 65536
 
--- the sizes of the set and of the block
+-- the sizes of the two numbers, of the set, in which a byte holds eight objects, and of the block
+abbrev pub numbersSize : ℕ
+numbersSize = 4
+
 abbrev pub setSize : ℕ
-setSize = 16
+setSize = mostObjects / 8
 
 abbrev pub blockSize : ℕ
-blockSize = 20
+blockSize = numbersSize + setSize
 
 -- byte j of the set of n objects: object 8j + b is at bit b
 unfoldable pub setByte : ℕ → Set → ℕ → ℕ
@@ -51,4 +55,4 @@ abbrev pub densityIn : List ℕ → ℤ
 densityIn b = signed (twoAt b 2)
 
 abbrev pub setIn : List ℕ → Set
-setIn b v = eqb (getD b (4 + v / 8) 0 / 2 ^ (v % 8) % 2) 1
+setIn b v = eqb (getD b (numbersSize + v / 8) 0 / 2 ^ (v % 8) % 2) 1

@@ -8,23 +8,24 @@ use lib.ListN.{length}
 use Rattle.density.specs.Sum.{sum}
 use Rattle.density.specs.Net.{Net}
 use Rattle.density.specs.Sheet.{Sheet, shares, gets, Sound, claim}
-use Rattle.limits.specs.Limits.{mostObjects, mostConstraints}
+use Rattle.limits.specs.Limits.{mostObjects, mostConstraints, mostWeight}
 use Rattle.routes.specs.At.{at}
 use Rattle.routes.specs.Arrays.{netIn, Fair}
+use Rattle.counter.specs.declared.net.NetArrays.{NetArrays}
+use Rattle.counter.specs.NetFor.{netHeld}
 use Rattle.counter.specs.Sheet.{sheetSize, sheetIn}
 
 -- a fair net, one of its constraints, and the bytes of a sheet
-pub record Checking (n m c : ℕ) (ends weights takes sheet : List ℕ) : Type 0 where
-  pub fair : Fair n m ends weights takes
-  pub is : c < m
-  pub long : sheetSize m ≤ length sheet
+pub record Checking (a : NetArrays) (c : ℕ) (sheet : List ℕ) : Type 0 where
+  pub fair : Fair (a .objects) (a .constraints) (a .ends) (a .weights) (a .takes)
+  pub is : c < a .constraints
+  pub long : sheetSize (a .constraints) ≤ length sheet
 
 -- 01, 'The questions': "exactly if the sheet is sound and its claim is that number"
-pub record Checked (n m c : ℕ) (ends weights takes sheet : List ℕ) (claimed : ℤ) (r : Bool) : Type 0 where
-  pub sound : r ≡ true → Sound (netIn n m ends weights takes) c (sheetIn sheet)
-  pub claims : r ≡ true → claim (netIn n m ends weights takes) c (sheetIn sheet) ≡ claimed
-  pub else : r ≡ false → Sound (netIn n m ends weights takes) c (sheetIn sheet)
-      → claim (netIn n m ends weights takes) c (sheetIn sheet) ≡ claimed → ⊥
+pub record Checked (a : NetArrays) (c : ℕ) (sheet : List ℕ) (claimed : ℤ) (r : Bool) : Type 0 where
+  pub sound : r ≡ true → Sound (netHeld a) c (sheetIn sheet)
+  pub claims : r ≡ true → claim (netHeld a) c (sheetIn sheet) ≡ claimed
+  pub else : r ≡ false → Sound (netHeld a) c (sheetIn sheet) → claim (netHeld a) c (sheetIn sheet) ≡ claimed → ⊥
 
 -- ---- the parts
 
@@ -35,7 +36,7 @@ constraintsOf m ends takes = netIn mostObjects m ends [] takes
 pub record Adding (m : ℕ) (ends takes sheet : List ℕ) : Type 0 where
   pub few : m ≤ mostConstraints
   pub named : (i : ℕ) → i < 2 * m → at ends i < mostObjects
-  pub light : (e : ℕ) → e < m → at takes e ≤ 15
+  pub light : (e : ℕ) → e < m → at takes e ≤ mostWeight
   pub long : sheetSize m ≤ length sheet
 
 -- the constraints below e fit their weights, and add up so
@@ -67,7 +68,7 @@ pub record Bare (c : ℕ) (ends load : List ℕ) (r : Bool) : Type 0 where
 
 pub record EndsWeigh (c : ℕ) (ends weights : List ℕ) (r : ℕ) : Type 0 where
   pub is : r ≡ at weights (at ends (2 * c)) + at weights (at ends (2 * c + 1))
-  pub low : r < 512
+  pub low : r < 256 + 256
 
 pub record Equals (above below : ℕ) (claimed : ℤ) (r : Bool) : Type 0 where
   pub equal : r ≡ true → subℕ above below ≡ claimed

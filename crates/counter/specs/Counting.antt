@@ -1,37 +1,46 @@
--- What counting asks of the arrays, and what it answers. Assumes nothing.
+-- What counting asks of a net, and what it answers. Assumes nothing.
 use mathlib.Core.Path.{_≡_}
-use mathlib.Core.Bool.{Bool, true, false}
+use mathlib.Core.Bool.{true, false}
 use mathlib.Core.List.{List}
-use Prim.Native.Nat.{ℕ, _<_, _≤_}
-use lib.IntN.{subℕ}
+use Prim.Native.Nat.{ℕ, _<_}
+use lib.IntN.{ℤ}
 use Rattle.density.specs.Top.{NoneAt, LowestAbove}
-use Rattle.routes.specs.At.{at}
-use Rattle.routes.specs.Arrays.{netIn, Fair}
+use Rattle.routes.specs.declared.search.Marks.{Marks}
 use Rattle.routes.specs.Solved.{Solved}
-use Rattle.counter.specs.Asked.{raise, mostRaised}
+use Rattle.counter.specs.declared.net.NetArrays.{NetArrays}
+use Rattle.counter.specs.declared.block.Block.{Block}
+use Rattle.counter.specs.declared.block.Finding.{Finding}
+use Rattle.counter.specs.NetFor.{netHeld, Countable}
+use Rattle.counter.specs.Range.{inRange}
 
--- a net within the limits in which every constraint takes something
-pub record Countable (n m : ℕ) (ends weights takes : List ℕ) : Type 0 where
-  pub fair : Fair n m ends weights takes
-  pub heavy : (e : ℕ) → e < m → 0 < at takes e
+-- one constraint of the net
+pub record OneOf (a : NetArrays) (c : ℕ) : Type 0 where
+  pub countable : Countable a
+  pub is : c < a .constraints
 
--- one constraint of it
-pub record OneOf (n m c : ℕ) (ends weights takes : List ℕ) : Type 0 where
-  pub countable : Countable n m ends weights takes
-  pub is : c < m
+-- top density, above less below, answer set and sheet of constraint c of the net
+abbrev pub SolvedIn : NetArrays → ℕ → Marks → List ℕ → ℕ → ℕ → Type 0
+SolvedIn a c marks shares above below =
+    Solved (a .objects) (a .constraints) c (a .ends) (a .weights) (a .takes) (marks .objects) shares above below
 
--- all of it at K, which is k less the raise of 64
-pub record AllAt (n m k : ℕ) (ends weights takes : List ℕ) : Type 0 where
-  pub countable : Countable n m ends weights takes
-  pub small : k ≤ mostRaised
-
--- the lowest-numbered constraint whose top density is above K, with its top density, above less below, and its answer set
-pub record Found (n m k : ℕ) (ends weights takes : List ℕ) (c above below : ℕ) (marks : List ℕ) : Type 0 where
-  pub lowest : LowestAbove (netIn n m ends weights takes) (subℕ k raise) c
+-- the block of constraint c of the net
+pub record BlockIn (a : NetArrays) (c : ℕ) (b : Block) : Type 0 where
+  pub is : c < a .constraints
+  pub constraint-is : b .constraint ≡ c
   pub shares : List ℕ
-  pub answered : Solved n m c ends weights takes marks shares above below
+  pub solved : SolvedIn a c (b .marks) shares (b .above) (b .below)
+
+-- all of the net at K
+pub record AllAt (a : NetArrays) (k : ℤ) : Type 0 where
+  pub countable : Countable a
+  pub in-range : inRange k ≡ true
+
+-- the block of the lowest-numbered constraint whose top density is above K
+pub record LowestIn (a : NetArrays) (k : ℤ) (b : Block) : Type 0 where
+  pub lowest : LowestAbove (netHeld a) k (b .constraint)
+  pub block-in : BlockIn a (b .constraint) b
 
 -- it was found, or there is none
-pub record Sought (n m k : ℕ) (ends weights takes : List ℕ) (found : Bool) (c above below : ℕ) (marks : List ℕ) : Type 0 where
-  pub yes : found ≡ true → Found n m k ends weights takes c above below marks
-  pub no : found ≡ false → NoneAt (netIn n m ends weights takes) (subℕ k raise)
+pub record Sought (a : NetArrays) (k : ℤ) (f : Finding) : Type 0 where
+  pub yes : f .found ≡ true → LowestIn a k (f .block)
+  pub no : f .found ≡ false → NoneAt (netHeld a) k

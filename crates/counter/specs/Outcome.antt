@@ -5,7 +5,7 @@ use mathlib.Core.List.{List, [], _++_}
 use Prim.Native.Nat.{ℕ, zero, suc}
 use lib.ListN.{length, drop}
 use Rattle.drawing.specs.Entry.{Drawing}
-use Rattle.drawing.specs.Read.{Reading, refused, accepted, read}
+use Rattle.drawing.specs.Read.{Reading, refused, accepted}
 
 pub record Outcome : Type 0 where
   pub code : ℕ
@@ -34,25 +34,22 @@ abbrev pub Unless : ℕ → Outcome → Type 0 → Type 0
 Unless zero o rest = rest
 Unless (suc n) o rest = o ≡ says (suc n)
 
-abbrev pub Judged : Question → Reading → Outcome → Type 0
-Judged q (refused n) o = o ≡ says n
-Judged q (accepted d) o = Unless (q .fault d) o (q .answer d o)
-
--- o is what question q about the bytes s comes to
-abbrev pub Fits : Question → List ℕ → Outcome → Type 0
-Fits q s o = Judged q (read s) o
+-- o is what question q comes to, by what was read
+abbrev pub Fits : Question → Reading → Outcome → Type 0
+Fits q (refused n) o = o ≡ says n
+Fits q (accepted d) o = Unless (q .fault d) o (q .answer d o)
 
 -- bytes written over the front of a buffer; "the rest of a longer buffer stays"
 abbrev pub over : List ℕ → List ℕ → List ℕ
 over b before = b ++ drop (length b) before
 
 -- the statement of an entry: its result is the code, and the buffer is as it was but for the bytes written over it
-pub record Answers (q : Question) (s : List ℕ) (result : ℕ) (before after : List ℕ) : Type 0 where
+pub record Answers (q : Question) (x : Reading) (result : ℕ) (before after : List ℕ) : Type 0 where
   pub outcome : Outcome
-  pub fits : Fits q s outcome
+  pub fits : Fits q x outcome
   pub result-is : result ≡ outcome .code
   pub after-is : after ≡ over (outcome .bytes) before
 
 -- the same of an entry that is lent no buffer
-abbrev pub Replies : Question → List ℕ → ℕ → Type 0
-Replies q s result = Answers q s result [] []
+abbrev pub Replies : Question → Reading → ℕ → Type 0
+Replies q x result = Answers q x result [] []

@@ -2,46 +2,26 @@
 use mathlib.Core.Path.{_≡_}
 use mathlib.Core.Logic.{_⊎_}
 use mathlib.Core.List.{List, _++_}
-use mathlib.Core.Bool.{not}
 use Prim.Native.Nat.{ℕ}
-use lib.Dec.{leb, ltb}
 use lib.IntN.{ℤ}
 use lib.ListN.{length}
 use Rattle.density.specs.Net.{Set}
 use Rattle.density.specs.Top.{Top, AnswerSet, NoneAt, LowestAbove}
 use Rattle.density.specs.Sheet.{Sound, claim}
-use Rattle.drawing.specs.Choice.{pick}
 use Rattle.drawing.specs.Entry.{Drawing}
 use Rattle.counter.specs.Weighed.{weighed}
-use Rattle.counter.specs.Block.{block, blockSize, two}
+use Rattle.counter.specs.Block.{two, numbersSize, block, blockSize}
 use Rattle.counter.specs.Sheet.{sheetSize, sheetIn}
-use Rattle.counter.specs.Range.{inRange}
+use Rattle.counter.specs.Fault.{roomFault, numberFault, rangeFault}
 use Rattle.counter.specs.Outcome.{Outcome, says, answered, Question}
 
--- ---- faults, 0 for none
-
--- "12: buffer or sheet too short"
-abbrev pub roomFault : ℕ → ℕ → ℕ
-roomFault room need = pick (ltb room need) 12 0
-
--- "11: no constraint has the number c"
-abbrev pub constraintFault : Drawing → ℕ → ℕ → ℕ
-constraintFault d c rest = pick (leb (length (d .constraints)) c) 11 rest
-
--- "10: K outside its range"
-abbrev pub rangeFault : ℤ → ℕ → ℕ
-rangeFault k rest = pick (not (inRange k)) 10 rest
-
 -- ---- look over: "number of objects and of constraints, 2 bytes each"
-
-abbrev pub countsSize : ℕ
-countsSize = 4
 
 abbrev pub counts : Drawing → List ℕ
 counts d = two (length (d .objects)) ++ two (length (d .constraints))
 
 abbrev pub lookOver : ℕ → Question
-lookOver room = record { fault = λ d. roomFault room countsSize; answer = λ d o. o ≡ answered (counts d) }
+lookOver room = record { fault = λ d. roomFault room numbersSize; answer = λ d o. o ≡ answered (counts d) }
 
 -- ---- one constraint: "block with top density and answer set"
 
@@ -52,7 +32,11 @@ pub record BlockOf (d : Drawing) (c : ℕ) (o : Outcome) : Type 0 where
   pub is : o ≡ answered (block (length (d .objects)) c top set)
 
 abbrev pub oneConstraint : ℕ → ℕ → Question
-oneConstraint c room = record { fault = λ d. constraintFault d c (roomFault room blockSize); answer = λ d o. BlockOf d c o }
+oneConstraint c room =
+    record {
+      fault = λ d. numberFault (length (d .constraints)) c (roomFault room blockSize);
+      answer = λ d o. BlockOf d c o;
+    }
 
 -- ---- any dense: "block of the lowest-numbered constraint whose top density is above K; or code 32, none, and no byte written"
 
@@ -79,7 +63,10 @@ pub record SheetOf (d : Drawing) (c : ℕ) (o : Outcome) : Type 0 where
 
 abbrev pub sheetFor : ℕ → ℕ → Question
 sheetFor c room =
-    record { fault = λ d. constraintFault d c (roomFault room (sheetSize (length (d .constraints)))); answer = λ d o. SheetOf d c o }
+    record {
+      fault = λ d. numberFault (length (d .constraints)) c (roomFault room (sheetSize (length (d .constraints))));
+      answer = λ d o. SheetOf d c o;
+    }
 
 -- ---- check: "code 0 exactly if the sheet is sound and its claim is that number, else code 33"
 
@@ -90,6 +77,6 @@ pub record Shows (d : Drawing) (c : ℕ) (b : List ℕ) (z : ℤ) : Type 0 where
 abbrev pub check : ℕ → List ℕ → ℤ → Question
 check c b z =
     record {
-      fault = λ d. constraintFault d c (roomFault (length b) (sheetSize (length (d .constraints))));
+      fault = λ d. numberFault (length (d .constraints)) c (roomFault (length b) (sheetSize (length (d .constraints))));
       answer = λ d o. (Shows d c b z × (o ≡ says 0)) ⊎ ((Shows d c b z → ⊥) × (o ≡ says 33));
     }

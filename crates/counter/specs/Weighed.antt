@@ -6,7 +6,7 @@ use Rattle.drawing.specs.Choice.{pick}
 use Rattle.density.specs.Net.{Net, Proper, Side, first, second}
 use Rattle.density.specs.Listing.{Heavy}
 use Rattle.drawing.specs.Entry.{Drawing, constraintAt}
-use Rattle.limits.specs.Limits.{mostObjects, mostConstraints}
+use Rattle.limits.specs.Limits.{mostObjects, mostConstraints, mostWeight}
 use Rattle.drawing.specs.Weight.{objectWeight, constraintWeight}
 
 abbrev pub endOf : Drawing → Side → ℕ → ℕ
@@ -27,11 +27,11 @@ weighed d =
       takes = constraintWeight d;
     }
 
--- what the net of an accepted drawing is: proper and within the limits, each constraint takes something, and no weight is above 15
+-- what the net of an accepted drawing is: proper and within the limits, each constraint takes something, and no weight is above the most
 pub record Within (d : Drawing) : Type 0 where
   pub few-objects : length (d .objects) ≤ mostObjects
   pub few-constraints : length (d .constraints) ≤ mostConstraints
   pub proper : Proper (weighed d)
   pub heavy : Heavy (weighed d)
-  pub light-objects : (v : ℕ) → v < length (d .objects) → weightOf d v ≤ 15
-  pub light-constraints : (e : ℕ) → e < length (d .constraints) → constraintWeight d e ≤ 15
+  pub light-objects : (v : ℕ) → v < length (d .objects) → weightOf d v ≤ mostWeight
+  pub light-constraints : (e : ℕ) → e < length (d .constraints) → constraintWeight d e ≤ mostWeight

@@ -1,7 +1,9 @@
 // The answer block: constraint number, density, set.
-use crate::SET;
 use limits::OBJECTS;
+use routes::search::Marks;
 ghost use mathlib.Core.Path.{_≡_};
+ghost use mathlib.Core.Bool.{true};
+ghost use mathlib.Core.List.{_++_};
 ghost use Prim.Native.Nat.{_+_, _<_, _≤_, _/_, _%_};
 ghost use lib.IntN.{subℕ};
 ghost use lib.ListN.{length, set};
@@ -9,7 +11,32 @@ ghost use Rattle.density.specs.Sum.{counted};
 ghost use Rattle.limits.specs.Limits.{mostObjects};
 ghost use Rattle.routes.specs.Arrays.{members};
 ghost use Rattle.counter.specs.Outcome.{over};
-ghost use Rattle.counter.specs.Block.{complement, setSize, setByte, setBytes, blockSize, block};
+ghost use Rattle.counter.specs.Written.{Writable, blockBytes, FindingWritten};
+ghost use Rattle.counter.specs.Block.{two, complement, numbersSize, setSize, setByte, setBytes, blockSize};
+
+// The bytes of two numbers, of a set and of a block.
+pub const TWO_NUMBERS: usize = 4;
+
+const SET: usize = OBJECTS / 8;
+
+pub const BLOCK: usize = TWO_NUMBERS + SET;
+
+// The code for none.
+const NONE: u32 = 32;
+
+// A block as values: a constraint, its density, which is above less below, and its set, which is marked.
+pub struct Block {
+    pub constraint: usize,
+    pub above: usize,
+    pub below: usize,
+    pub marks: Marks,
+}
+
+// A block, if one was found.
+pub struct Finding {
+    pub found: bool,
+    pub block: Block,
+}
 
 // Writes a number in two bytes, the lower first.
 pub fn put_two(buffer: &mut [u8], at: usize, n: usize)
@@ -18,6 +45,15 @@ pub fn put_two(buffer: &mut [u8], at: usize, n: usize)
 {
     buffer[at] = (n % 256) as u8;
     buffer[at + 1] = (n / 256 % 256) as u8;
+}
+
+// Writes two numbers at the front.
+pub fn put_numbers(x: usize, y: usize, buffer: &mut [u8])
+    requires { ⌜ (numbersSize ≤ length (now buffer)) × (x < 65536) × (y < 65536) ⌝ }
+    ensures { λ _. ⌜ now (buffer .exit) ≡ over (two x ++ two y) (now (buffer .entry)) ⌝ }
+{
+    put_two(buffer, 0, x);
+    put_two(buffer, 2, y);
 }
 
 // A density, above less below, as 16-bit two's complement.
@@ -62,12 +98,30 @@ pub fn put_set(marks: &[u8; OBJECTS], part: &mut [u8])
     }
 }
 
-// Writes the block of constraint c, whose density is above less below and whose set is marked.
-pub fn put_block(c: usize, above: usize, below: usize, marks: &[u8; OBJECTS], buffer: &mut [u8])
-    requires { ⌜ (c < 65536) × (above < 32768) × (below < 32768) × (blockSize ≤ length (now buffer)) ⌝ }
-    ensures { λ _. ⌜ now (buffer .exit) ≡ over (block mostObjects c (subℕ above below) (members (now (marks .entry)))) (now (buffer .entry)) ⌝ }
+// Writes a block.
+pub fn put_block(block: Block, buffer: &mut [u8])
+    requires { ⌜ Writable block × (blockSize ≤ length (now buffer)) ⌝ }
+    ensures { λ _. ⌜ now (buffer .exit) ≡ over (blockBytes block) (now (buffer .entry)) ⌝ }
 {
-    put_two(buffer, 0, c);
-    put_two(buffer, 2, two_complement(above, below));
-    put_set(marks, &mut buffer[4..]);
+    let marks = block.marks;
+    let objects = marks.objects;
+    put_numbers(
+        block.constraint,
+        two_complement(block.above, block.below),
+        buffer,
+    );
+    put_set(&objects, &mut buffer[TWO_NUMBERS..]);
+}
+
+// Writes the block that was found, code 0; or says none, and writes nothing.
+pub fn put_finding(finding: Finding, buffer: &mut [u8]) -> u32
+    requires { ⌜ (finding .found ≡ true → Writable (finding .block)) × (blockSize ≤ length (now buffer)) ⌝ }
+    ensures { λ r. ⌜ FindingWritten finding (now (buffer .entry)) r (now (buffer .exit)) ⌝ }
+{
+    if !finding.found {
+        return NONE;
+    }
+    let block = finding.block;
+    put_block(block, buffer);
+    0
 }

@@ -1,15 +1,8 @@
-// The counter: a drawing's net counted, the answer block and the sheet as bytes, and the check of a sheet.
+// The counter: a drawing's net counted, the faults of a call, the answer block and the sheet as bytes, and the check of a sheet.
 pub mod block;
-pub mod check;
+pub mod checker;
 pub mod count;
+pub mod fault;
+pub mod net;
 pub mod range;
 pub mod sheet;
-
-// The bytes of a set.
-pub const SET: usize = 16;
-
-// K as it is asked: outside its range, or at the natural K + 64.
-pub enum Asked {
-    Outside,
-    At(usize),
-}

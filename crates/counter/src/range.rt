@@ -1,26 +1,22 @@
-// The range of K, and densities compared with K. Inside, K is the natural K + 64.
-use crate::Asked;
+// Densities compared with K. Inside, K is the natural K + 64.
+ghost use mathlib.Core.Path.{_≡_};
+ghost use mathlib.Core.Bool.{true};
 ghost use Prim.Native.Nat.{_<_};
-ghost use Rattle.counter.specs.Asked.{meantBy, Above};
+ghost use Rattle.counter.specs.Range.{inRange, FromLeast, Above};
 
 // The least K and the most, and what is added to K.
-const LEAST: i32 = -64;
+pub const LEAST: i32 = -64;
 
-const MOST: i32 = 8191;
+pub const MOST: i32 = 8191;
 
 const RAISE: usize = 64;
 
-// What is asked at K.
-pub fn asked(k: i32) -> Asked
-    ensures { λ r. ⌜ meantBy r k ⌝ }
+// K + 64.
+pub fn from_least(k: i32) -> usize
+    requires { ⌜ inRange k ≡ true ⌝ }
+    ensures { λ r. ⌜ FromLeast k r ⌝ }
 {
-    if k < LEAST {
-        return Asked::Outside;
-    }
-    if k > MOST {
-        return Asked::Outside;
-    }
-    Asked::At((k - LEAST) as usize)
+    (k - LEAST) as usize
 }
 
 // Whether a density, above less below, is above K, where k is K + 64.

@@ -1,53 +1,48 @@
 -- For every constraint of every net the answer set exists. 01, 'Density': "That it exists is part of the work."
 -- Among the finitely many sets that hold c one is densest, and among the densest one has fewest objects: two densest sets share a
 -- densest set, so the smallest lies inside every other. No code is needed for it. Assumes nothing.
-use mathlib.Core.Path.{refl, ap, ap₂, subst}
+mod BestSet
+mod Lattice
+use mathlib.Core.Path.{refl, ap, ap₂}
 use mathlib.Core.Bool.{Bool, true, false, not, _&&_}
 use Prim.Native.Nat.{ℕ, _+_, _-_, _≤_, _<_}
 use native.Mathlib.Nat.{le-refl}
 use native.Mathlib.Omega.{arith}
-use lib.Dec.{T, eqb, eqb→eq, eqb-refl}
-use lib.IntN.{ℤ}
+use lib.Dec.{T, eqb, eqb→eq}
 use Rattle.density.specs.Sum.{sum, counted}
 use Rattle.density.specs.Net.{Net, Proper, Set, holds, Inside}
 use Rattle.density.specs.Density.{takenBy, free, density}
-use Rattle.density.specs.Top.{Reaches, Bound, AnswerSet}
-use Rattle.density.proofs.Tests.{and-left, and-right, and-both}
+use Rattle.density.specs.Top.{Reaches, Bound, HasAnswerSet}
+use Rattle.density.proofs.Tests.{and-left, and-right, and-both, eq→eqb}
 use Rattle.density.proofs.Sums.{sum-same, sum-le, sum-gap, counted-le}
 use Rattle.density.proofs.Integers.{le-of-cross, eq-of-cross, cross-of-eq}
-use Rattle.density.proofs.Alike.{holds-alike, held-alike, free-alike}
-use Rattle.density.proofs.Subsets.{Best, best}
-use Rattle.density.proofs.Lattice.{meet, meet-reaches}
+use Rattle.density.proofs.Holding.{freeAt, holds-alike, taken-alike, free-alike}
+use Rattle.density.proofs.Exists.BestSet.{Best, best}
+use Rattle.density.proofs.Exists.Lattice.{meet, meet-reaches}
 
 -- how many objects a set leaves out, and all that objects weigh
 abbrev outside : Set → ℕ → ℕ
 outside S v = counted (not (S v)) 1
 
-left-out : Net → Set → ℕ
-left-out d S = sum (d .objects) (outside S)
+leftOut : Net → Set → ℕ
+leftOut d S = sum (d .objects) (outside S)
 
-all-weigh : Net → ℕ
-all-weigh d = sum (d .objects) (d .weight)
+allWeigh : Net → ℕ
+allWeigh d = sum (d .objects) (d .weight)
 
-free-le : (d : Net) (S : Set) → free d S ≤ all-weigh d
-unfolding free all-weigh
-free-le d S = sum-le (d .objects) (λ v. counted (S v) (d .weight v)) (d .weight) (λ v _. counted-le (S v) (d .weight v))
-
--- some top density of c, with its answer set
-pub record Answered (d : Net) (c : ℕ) : Type 0 where
-  pub top : ℤ
-  pub set : Set
-  pub answer : AnswerSet d c top set
+free-le : (d : Net) (S : Set) → free d S ≤ allWeigh d
+unfolding free allWeigh
+free-le d S = sum-le (d .objects) (freeAt d S) (d .weight) (λ v _. counted-le (S v) (d .weight v))
 
 module _ (d : Net) (ok : Proper d) (c : ℕ) (l : c < d .constraints) where
   abbrev everything : Set
   everything v = true
 
   -- the densest
-  densest : Best (λ S. holds d S c) (λ S. takenBy d S + (all-weigh d - free d S))
+  densest : Best (λ S. holds d S c) (λ S. takenBy d S + (allWeigh d - free d S))
   densest =
-      best (d .objects) (λ S. holds d S c) (λ S. takenBy d S + (all-weigh d - free d S)) (λ S R h. holds-alike d ok S R h c l)
-      (λ S R h. ap₂ (λ (x y : ℕ). x + (all-weigh d - y)) (held-alike d ok S R h) (free-alike d ok S R h))
+      best (d .objects) (λ S. holds d S c) (λ S. takenBy d S + (allWeigh d - free d S)) (λ S R h. holds-alike d ok S R h c l)
+      (λ S R h. ap₂ (λ (x y : ℕ). x + (allWeigh d - y)) (taken-alike d ok S R h) (free-alike d ok S R h))
       everything
       tt
 
@@ -64,31 +59,37 @@ module _ (d : Net) (ok : Proper d) (c : ℕ) (l : c < d .constraints) where
       }
 
   -- a set that holds c and is as dense
-  abbrev as-dense : Set → Bool
-  as-dense S = holds d S c && eqb (takenBy d S + free d D) (takenBy d D + free d S)
+  abbrev ties : Set → Bool
+  ties S = eqb (takenBy d S + free d D) (takenBy d D + free d S)
 
-  reaches : (S : Set) → T (as-dense S) → Reaches d c (density d D) S
+  abbrev asDense : Set → Bool
+  asDense S = holds d S c && ties S
+
+  reaches : (S : Set) → T (asDense S) → Reaches d c (density d D) S
   unfolding density
   reaches S t =
       record {
-        holding = and-left (holds d S c) (eqb (takenBy d S + free d D) (takenBy d D + free d S)) t;
+        holding = and-left (holds d S c) (ties S) t;
         density-is =
             eq-of-cross (takenBy d S) (free d S) (takenBy d D) (free d D)
-            (eqb→eq (takenBy d S + free d D) (takenBy d D + free d S) (and-right (holds d S c) (eqb (takenBy d S + free d D) (takenBy d D + free d S)) t));
+            (eqb→eq (takenBy d S + free d D) (takenBy d D + free d S) (and-right (holds d S c) (ties S) t));
       }
 
-  reached : (S : Set) → Reaches d c (density d D) S → T (as-dense S)
+  reached : (S : Set) → Reaches d c (density d D) S → T (asDense S)
   unfolding density
   reached S r =
-      and-both (holds d S c) (eqb (takenBy d S + free d D) (takenBy d D + free d S)) (r .holding)
-      (subst (λ (x : ℕ). T (eqb (takenBy d S + free d D) x)) (cross-of-eq (takenBy d S) (free d S) (takenBy d D) (free d D) (r .density-is)) (eqb-refl (takenBy d S + free d D)))
+      and-both (holds d S c) (ties S) (r .holding)
+      (eq→eqb (takenBy d S + free d D) (takenBy d D + free d S)
+      (cross-of-eq (takenBy d S) (free d S) (takenBy d D) (free d D) (r .density-is)))
 
   -- the smallest of them
-  smallest : Best as-dense (λ S. left-out d S)
-  unfolding left-out
+  smallest : Best asDense (leftOut d)
+  unfolding leftOut
   smallest =
-      best (d .objects) as-dense (λ S. left-out d S)
-      (λ S R h. ap₂ _&&_ (holds-alike d ok S R h c l) (ap₂ (λ (x y : ℕ). eqb (x + free d D) (takenBy d D + y)) (held-alike d ok S R h) (free-alike d ok S R h)))
+      best (d .objects) asDense (leftOut d)
+      (λ S R h.
+      ap₂ _&&_ (holds-alike d ok S R h c l)
+      (ap₂ (λ (x y : ℕ). eqb (x + free d D) (takenBy d D + y)) (taken-alike d ok S R h) (free-alike d ok S R h)))
       (λ S R h. sum-same (d .objects) (outside S) (outside R) (λ v lv. ap (λ (b : Bool). counted (not b) 1) (h v lv)))
       D
       (reached D (record { holding = densest .passes; density-is = refl }))
@@ -98,11 +99,13 @@ module _ (d : Net) (ok : Proper d) (c : ℕ) (l : c < d .constraints) where
 
   -- the smallest lies inside every other, since it shares a densest set with it
   inside : (S : Set) → Reaches d c (density d D) S → Inside d M S
-  unfolding left-out
-  inside S r v lv t = kept (S v) (M v) (omega (arith, sum-gap (d .objects) (outside M) (outside (meet S M)) (λ u _. more (S u) (M u)) v lv, fewest)) t
+  unfolding leftOut
+  inside S r v lv =
+      kept (S v) (M v)
+      (omega (arith, sum-gap (d .objects) (outside M) (outside (meet S M)) (λ u _. more (S u) (M u)) v lv, fewest))
     where
       fewest : sum (d .objects) (outside (meet S M)) ≤ sum (d .objects) (outside M)
-      fewest = smallest .most (meet S M) (reached (meet S M) (meet-reaches d c (density d D) bound S M r (reaches M (smallest .passes))))
+      fewest = smallest .most (meet S M) (reached (meet S M) (meet-reaches d S M c (density d D) bound r (reaches M (smallest .passes))))
 
       more : (p q : Bool) → counted (not q) 1 ≤ counted (not (p && q)) 1
       more true q = le-refl (counted (not q) 1)
@@ -114,6 +117,6 @@ module _ (d : Net) (ok : Proper d) (c : ℕ) (l : c < d .constraints) where
       kept false true h t = omega arith
       kept false false h t = t
 
-  pub answer-exists : Answered d c
+  pub answer-exists : HasAnswerSet d c
   answer-exists =
       record { top = density d D; set = M; answer = record { reached = reaches M (smallest .passes); greatest = bound; least = inside } }

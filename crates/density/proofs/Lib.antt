@@ -1,15 +1,17 @@
-pub mod Tests
+-- what other crates cite
 pub mod Sums
 pub mod Integers
-pub mod Balance
+pub mod Tests
+pub mod EveryNumber
+pub mod EverySet
 pub mod Shares
-pub mod Lattice
-pub mod Alike
-pub mod Subsets
-pub mod Exists
-pub mod One
-pub mod Pairs
+pub mod OneAnswer
 pub mod Listing
+-- the theorems that no other crate cites, for a reader
+pub mod Exists
 pub mod Changes
 pub mod Table
 pub mod Errors
+-- what the proofs of this crate share
+mod Holding
+mod Matching

@@ -1,6 +1,7 @@
 -- What shares say about density. 01, 'Shares': "A sound sheet proves that no set holding c is denser than its claim."
 -- A set that no route leaves and that is full outside c's ends has exactly the claim, and no route leaves any set that has it;
 -- so the least set that no route leaves is the answer set. Assumes nothing.
+mod Balance
 use mathlib.Core.Path.{_≡_, sym, _∙_, ap, ap₂, subst}
 use Prim.Native.Nat.{ℕ, _+_, _≤_, _<_}
 use lib.Dec.{T, eqb}
@@ -10,16 +11,16 @@ use Rattle.density.specs.Sum.{counted}
 use Rattle.density.specs.Net.{Net, Proper, Set, Side, first, second, holds, Inside}
 use Rattle.density.specs.Density.{takenBy, free, density}
 use Rattle.density.specs.Top.{Reaches, Bound, AnswerSet}
-use Rattle.density.specs.Sheet.{Sheet, shares, gets, received, Sound, total, given, remainder, ends-weigh, claim}
-use Rattle.density.specs.Closed.{Closed, Full}
+use Rattle.density.specs.Sheet.{Sheet, shares, gets, received, Sound, total, given, remainder, endsWeigh, claim}
+use Rattle.density.specs.Closed.{Closed, AllFull}
 use Rattle.density.proofs.Sums.{sum-same}
 use Rattle.density.proofs.Integers.{le-of-cross, eq-of-cross, cross-of-eq, sub-less}
-use Rattle.density.proofs.Balance.{cross-le, cross-eq, closed-if-even}
+use Rattle.density.proofs.Shares.Balance.{cross-le, cross-eq, closed-if-even}
 
 -- the claim as one difference
-pub claim-is : (d : Net) (c : ℕ) (s : Sheet) → claim d c s ≡ subℕ (total d) (given d s + ends-weigh d c)
+pub claim-is : (d : Net) (c : ℕ) (s : Sheet) → claim d c s ≡ subℕ (total d) (given d s + endsWeigh d c)
 unfolding claim remainder
-claim-is d c s = sub-less (total d) (given d s) (ends-weigh d c)
+claim-is d c s = sub-less (total d) (given d s) (endsWeigh d c)
 
 -- what a sheet shows depends on the shares of the net's constraints alone
 module _ (d : Net) (s r : Sheet) (same : (i : Side) (e : ℕ) → e < d .constraints → s i e ≡ r i e) where
@@ -43,7 +44,7 @@ module _ (d : Net) (s r : Sheet) (same : (i : Side) (e : ℕ) → e < d .constra
 
   pub claim-same : (c : ℕ) → claim d c s ≡ claim d c r
   unfolding claim remainder given
-  claim-same c = ap (λ (x : ℕ). subℕ (total d) x -ℤ pos (ends-weigh d c)) (sum-same (d .constraints) (shares s) (shares r) shares-same)
+  claim-same c = ap (λ (x : ℕ). subℕ (total d) x -ℤ pos (endsWeigh d c)) (sum-same (d .constraints) (shares s) (shares r) shares-same)
 
 module _ (d : Net) (ok : Proper d) (c : ℕ) (l : c < d .constraints) (s : Sheet) (sound : Sound d c s) where
   -- "A sound sheet proves that no set holding c is denser than its claim."
@@ -54,17 +55,17 @@ module _ (d : Net) (ok : Proper d) (c : ℕ) (l : c < d .constraints) (s : Sheet
         no-denser =
             λ S h.
             subst (λ (z : ℤ). density d S ≤ℤ z) (sym (claim-is d c s))
-            (le-of-cross (takenBy d S) (free d S) (total d) (given d s + ends-weigh d c) (cross-le d ok c l s sound S h));
+            (le-of-cross (takenBy d S) (free d S) (total d) (given d s + endsWeigh d c) (cross-le d ok c l s sound S h));
       }
 
   -- a set that holds c, that no route leaves and that is full outside c's ends has exactly the claim
-  pub closed-reaches : (M : Set) → T (holds d M c) → Closed d s M → Full d c s M → Reaches d c (claim d c s) M
+  pub closed-reaches : (M : Set) → T (holds d M c) → Closed d s M → AllFull d c s M → Reaches d c (claim d c s) M
   unfolding density
   closed-reaches M h closed full =
       record {
         holding = h;
         density-is =
-            eq-of-cross (takenBy d M) (free d M) (total d) (given d s + ends-weigh d c) (cross-eq d ok c l s sound M h closed full)
+            eq-of-cross (takenBy d M) (free d M) (total d) (given d s + endsWeigh d c) (cross-eq d ok c l s sound M h closed full)
             ∙ sym (claim-is d c s);
       }
 
@@ -73,10 +74,10 @@ module _ (d : Net) (ok : Proper d) (c : ℕ) (l : c < d .constraints) (s : Sheet
   unfolding density
   reaching-closed S r =
       closed-if-even d ok c l s sound S (r .holding)
-      (cross-of-eq (takenBy d S) (free d S) (total d) (given d s + ends-weigh d c) (r .density-is ∙ claim-is d c s))
+      (cross-of-eq (takenBy d S) (free d S) (total d) (given d s + endsWeigh d c) (r .density-is ∙ claim-is d c s))
 
   -- so the least such set is the answer set
-  pub least-closed-answers : (M : Set) → T (holds d M c) → Closed d s M → Full d c s M
+  pub least-closed-answers : (M : Set) → T (holds d M c) → Closed d s M → AllFull d c s M
       → ((S : Set) → T (holds d S c) → Closed d s S → Inside d M S) → AnswerSet d c (claim d c s) M
   least-closed-answers M h closed full least =
       record {

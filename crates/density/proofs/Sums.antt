@@ -1,7 +1,7 @@
--- Laws of finite sums. Assumes nothing.
+-- Laws of what a test counts, and of finite sums. Assumes nothing.
 use mathlib.Core.Path.{_≡_, refl, sym, _∙_, ap, ap₂}
 use mathlib.Core.Logic.{_≢_}
-use mathlib.Core.Bool.{Bool, true, false, _&&_}
+use mathlib.Core.Bool.{Bool, true, false, _&&_, and-comm}
 use Prim.Native.Nat.{ℕ, zero, suc, _+_, _≤_, _<_}
 use native.Mathlib.Nat.{le-refl}
 use native.Mathlib.Omega.{arith}
@@ -9,6 +9,40 @@ use native.Mathlib.Decide.{ℕ-discrete, decLt}
 use borrow.Author.Tests.{eq-eqb, ne-eqb}
 use lib.Dec.{T, eqb}
 use Rattle.density.specs.Sum.{sum, counted}
+
+pub counted-yes : (b : Bool) (x : ℕ) → T b → counted b x ≡ x
+counted-yes true x t = refl
+counted-yes false x t = absurd t
+
+pub counted-no : (b : Bool) (x : ℕ) → (T b → ⊥) → counted b x ≡ 0
+counted-no true x t = absurd (t tt)
+counted-no false x t = refl
+
+pub counted-some : (b : Bool) (x : ℕ) → 0 < counted b x → T b
+counted-some true x h = tt
+counted-some false x h = omega arith
+
+pub counted-le : (b : Bool) (x : ℕ) → counted b x ≤ x
+counted-le true x = le-refl x
+counted-le false x = omega arith
+
+pub counted-add : (b : Bool) (x y : ℕ) → counted b (x + y) ≡ counted b x + counted b y
+counted-add true x y = refl
+counted-add false x y = refl
+
+pub counted-both : (a b : Bool) (x : ℕ) → counted a (counted b x) ≡ counted (a && b) x
+counted-both true b x = refl
+counted-both false b x = refl
+
+pub counted-swap : (a b : Bool) (x : ℕ) → counted a (counted b x) ≡ counted b (counted a x)
+counted-swap true b x = refl
+counted-swap false true x = refl
+counted-swap false false x = refl
+
+pub counted-comm : (a b : Bool) (x : ℕ) → counted (a && b) x ≡ counted (b && a) x
+counted-comm a b x = ap (λ (t : Bool). counted t x) (and-comm a b)
+
+-- ---- sums
 
 -- terms that agree below k have one sum
 pub sum-same : (k : ℕ) (f g : ℕ → ℕ) → ((i : ℕ) → i < k → f i ≡ g i) → sum k f ≡ sum k g
@@ -53,22 +87,6 @@ pub counted-sum : (b : Bool) (k : ℕ) (f : ℕ → ℕ) → counted b (sum k f)
 counted-sum true k f = refl
 counted-sum false k f = sym (sum-zero k (λ _. 0) (λ i _. refl))
 
-pub counted-yes : (b : Bool) (x : ℕ) → T b → counted b x ≡ x
-counted-yes true x t = refl
-counted-yes false x t = absurd t
-
-pub counted-no : (b : Bool) (x : ℕ) → (T b → ⊥) → counted b x ≡ 0
-counted-no true x t = absurd (t tt)
-counted-no false x t = refl
-
-pub counted-le : (b : Bool) (x : ℕ) → counted b x ≤ x
-counted-le true x = le-refl x
-counted-le false x = omega arith
-
-pub counted-both : (a b : Bool) (x : ℕ) → counted a (counted b x) ≡ counted (a && b) x
-counted-both true b x = refl
-counted-both false b x = refl
-
 -- a sum with one term: that of index i
 pub sum-one : (k i : ℕ) (f : ℕ → ℕ) → i < k → sum k (λ j. counted (eqb i j) (f j)) ≡ f i
 unfolding sum
@@ -89,15 +107,6 @@ sum-one (suc k) i f l = go (ℕ-discrete i k) (sum-one k i f)
         )
     go (no n) rest = omega (arith, rest (omega arith), other k n)
 
-pub counted-add : (b : Bool) (x y : ℕ) → counted b (x + y) ≡ counted b x + counted b y
-counted-add true x y = refl
-counted-add false x y = refl
-
-pub counted-swap : (a b : Bool) (x : ℕ) → counted a (counted b x) ≡ counted b (counted a x)
-counted-swap true b x = refl
-counted-swap false true x = refl
-counted-swap false false x = refl
-
 -- x stands at a alone, and is counted where the test holds at a
 pub sum-at : (n a x : ℕ) (p : ℕ → Bool) → a < n → sum n (λ v. counted (p v) (counted (eqb a v) x)) ≡ counted (p a) x
 sum-at n a x p l =
@@ -116,7 +125,3 @@ some-term (suc k) f h = go (decLt 0 (f k)) (some-term k f)
     go : Dec (0 < f k) → (0 < sum k f → (i : ℕ) × (i < k) × (0 < f i)) → (i : ℕ) × (i < suc k) × (0 < f i)
     go (yes p) rest = (k, omega arith, p)
     go (no n) rest = let r = rest (omega arith) in (r .0, omega (arith, r .1), r .2)
-
-pub counted-some : (b : Bool) (x : ℕ) → 0 < counted b x → T b
-counted-some true x h = tt
-counted-some false x h = omega arith

@@ -32,13 +32,17 @@ pub record Reordered (d b : Net) : Type 0 where
   pub same-ends : (i : Side) (e : ℕ) → e < d .constraints → b .end i (to e) ≡ d .end i e
 
 -- exchanging ends: any constraint may name its two ends the other way round
+abbrev pub SameWay : Net → Net → ℕ → Type 0
+SameWay d b e = (b .end first e ≡ d .end first e) × (b .end second e ≡ d .end second e)
+
+abbrev pub OtherWay : Net → Net → ℕ → Type 0
+OtherWay d b e = (b .end first e ≡ d .end second e) × (b .end second e ≡ d .end first e)
+
 pub record Exchanged (d b : Net) : Type 0 where
   pub objects : SameObjects d b
   pub as-many : b .constraints ≡ d .constraints
   pub same-takes : (e : ℕ) → e < d .constraints → b .takes e ≡ d .takes e
-  pub ends : (e : ℕ) → e < d .constraints
-      → ((b .end first e ≡ d .end first e) × (b .end second e ≡ d .end second e))
-      ⊎ ((b .end first e ≡ d .end second e) × (b .end second e ≡ d .end first e))
+  pub ends : (e : ℕ) → e < d .constraints → SameWay d b e ⊎ OtherWay d b e
 
 -- joining: constraint e goes into constraint `into e`, which is on the same pair; each of b's constraints has the summed weight of
 -- those that go into it, one at least

@@ -13,6 +13,10 @@ pub record Closed (d : Net) (s : Sheet) (M : Set) : Type 0 where
   -- "and from a full object to any constraint that has put a share there"
   pub goes-on : (i : Side) (e : ℕ) → e < d .constraints → T (M (d .end i e)) → 0 < s i e → T (holds d M e)
 
--- "An object with no room is full; c's two ends always are.": every other object of M has no room
-abbrev pub Full : Net → ℕ → Sheet → Set → Type 0
-Full d c s M = (v : ℕ) → v < d .objects → T (M v) → v ≢ d .end first c → v ≢ d .end second c → received d s v ≡ d .weight v
+-- "An object with no room is full; c's two ends always are."
+abbrev pub Full : Net → ℕ → Sheet → ℕ → Type 0
+Full d c s v = v ≢ d .end first c → v ≢ d .end second c → received d s v ≡ d .weight v
+
+-- every object of M is full
+abbrev pub AllFull : Net → ℕ → Sheet → Set → Type 0
+AllFull d c s M = (v : ℕ) → v < d .objects → T (M v) → Full d c s v

@@ -25,10 +25,11 @@ pub record Dense (d : Net) (K : ℤ) (S : Set) : Type 0 where
   pub is : some < d .constraints
   pub held-by : T (holds d S some)
 
--- a set dense at K, or none
+-- some set is dense at K
 pub record HasDense (d : Net) (K : ℤ) : Type 0 where
   pub set : Set
   pub dense : Dense d K set
 
+-- no set is
 abbrev pub NoneDense : Net → ℤ → Type 0
 NoneDense d K = HasDense d K → ⊥

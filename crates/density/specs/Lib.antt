@@ -1,10 +1,12 @@
+-- what a reader must believe
 pub mod Sum
 pub mod Net
 pub mod Density
 pub mod Top
 pub mod Sheet
-pub mod Closed
 pub mod Listing
 pub mod Change
 pub mod Example
-pub mod Right
+pub mod Correct
+-- what only states inner laws
+pub mod Closed

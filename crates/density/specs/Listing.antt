@@ -13,9 +13,13 @@ use Rattle.density.specs.Net.{Net, Set, first, second}
 abbrev pub goes : Net → ℕ → ℕ → ℕ → Bool
 goes d e u v = eqb (d .end first e) u && eqb (d .end second e) v
 
--- what all constraints on the pair u, v take, whichever of the two is the first end
+-- what constraint e takes on the pair u, v, whichever of the two is its first end
+abbrev pub onPair : Net → ℕ → ℕ → ℕ → ℕ
+onPair d u v e = counted (goes d e u v) (d .takes e) + counted (goes d e v u) (d .takes e)
+
+-- what all constraints on the pair u, v take
 unfoldable pub pairTakes : Net → ℕ → ℕ → ℕ
-pairTakes d u v = sum (d .constraints) (λ e. counted (goes d e u v) (d .takes e) + counted (goes d e v u) (d .takes e))
+pairTakes d u v = sum (d .constraints) (onPair d u v)
 
 -- the numbers below n and those below k are matched one to one: `to` renumbers, `from` undoes it
 pub record Matching (n k : ℕ) (to from : ℕ → ℕ) : Type 0 where
@@ -36,7 +40,8 @@ pub record Listings (d b : Net) : Type 0 where
 -- constraint e of d and constraint f of b correspond: f is on the pair that e's ends are matched with
 abbrev pub Corresponds : {d b : Net} → Listings d b → ℕ → ℕ → Type 0
 Corresponds {d} {b} l e f =
-    T (goes b f (l .to (d .end first e)) (l .to (d .end second e))) ⊎ T (goes b f (l .to (d .end second e)) (l .to (d .end first e)))
+    T (goes b f (l .to (d .end first e)) (l .to (d .end second e)))
+    ⊎ T (goes b f (l .to (d .end second e)) (l .to (d .end first e)))
 
 -- a set of d's objects, in b's numbers
 abbrev pub image : {d b : Net} → Listings d b → Set → Set

@@ -1,6 +1,7 @@
 -- A net: what a drawing is to the counter. 01, 'What it covers': "A drawing is a list of objects and a list of constraints,
 -- each between two objects .. Objects and constraints are each numbered from 0". Only weights are left: no kinds, no bytes, no limits.
--- A set of objects is a test on their numbers. Assumes nothing.
+-- Assumes nothing.
+use mathlib.Core.Path.{_≡_}
 use mathlib.Core.Logic.{_≢_}
 use mathlib.Core.Bool.{Bool, _&&_}
 use Prim.Native.Nat.{ℕ, _<_}
@@ -25,6 +26,7 @@ pub record Proper (d : Net) : Type 0 where
   pub named : (i : Side) (e : ℕ) → e < d .constraints → d .end i e < d .objects
   pub apart : (e : ℕ) → e < d .constraints → d .end first e ≢ d .end second e
 
+-- 01, 'Density': "A set of objects", a test on their numbers
 abbrev pub Set : Type 0
 Set = ℕ → Bool
 
@@ -32,6 +34,10 @@ Set = ℕ → Bool
 abbrev pub Inside : Net → Set → Set → Type 0
 Inside d S R = (v : ℕ) → v < d .objects → T (S v) → T (R v)
 
--- 01, 'Density': "A set of objects holds a constraint if both its ends are in the set."
+-- S and R have the same objects below n
+abbrev pub Alike : ℕ → Set → Set → Type 0
+Alike n S R = (v : ℕ) → v < n → S v ≡ R v
+
+-- "A set of objects holds a constraint if both its ends are in the set."
 abbrev pub holds : Net → Set → ℕ → Bool
 holds d S e = S (d .end first e) && S (d .end second e)

@@ -10,7 +10,7 @@ use Rattle.density.specs.Net.{Net, Side, first, second}
 abbrev pub Sheet : Type 0
 Sheet = Side → ℕ → ℕ
 
--- both shares of a constraint
+-- "the two shares of a constraint", added up
 abbrev pub shares : Sheet → ℕ → ℕ
 shares s e = s first e + s second e
 
@@ -18,10 +18,11 @@ shares s e = s first e + s second e
 abbrev pub gets : Net → Sheet → ℕ → ℕ → ℕ
 gets d s v e = counted (eqb (d .end first e) v) (s first e) + counted (eqb (d .end second e) v) (s second e)
 
--- "the shares received by an object"
+-- "the shares received by an object", added up
 unfoldable pub received : Net → Sheet → ℕ → ℕ
 received d s v = sum (d .constraints) (gets d s v)
 
+-- "It is sound when"
 pub record Sound (d : Net) (c : ℕ) (s : Sheet) : Type 0 where
   -- "the two shares of a constraint add up to no more than its weight"
   pub fits : (e : ℕ) → e < d .constraints → shares s e ≤ d .takes e
@@ -30,10 +31,11 @@ pub record Sound (d : Net) (c : ℕ) (s : Sheet) : Type 0 where
   -- "the two ends of c receive nothing"
   pub bare : (i : Side) → received d s (d .end i c) ≡ 0
 
--- "the sum of all constraint weights", and "all shares"
+-- "the sum of all constraint weights"
 unfoldable pub total : Net → ℕ
 total d = sum (d .constraints) (d .takes)
 
+-- "all shares"
 unfoldable pub given : Net → Sheet → ℕ
 given d s = sum (d .constraints) (shares s)
 
@@ -41,10 +43,10 @@ given d s = sum (d .constraints) (shares s)
 unfoldable pub remainder : Net → Sheet → ℤ
 remainder d s = subℕ (total d) (given d s)
 
--- the weights of c's two ends
-abbrev pub ends-weigh : Net → ℕ → ℕ
-ends-weigh d c = d .weight (d .end first c) + d .weight (d .end second c)
+-- "the weights of c's two ends"
+abbrev pub endsWeigh : Net → ℕ → ℕ
+endsWeigh d c = d .weight (d .end first c) + d .weight (d .end second c)
 
 -- "The sheet shows the claim: remainder less the weights of c's two ends."
 unfoldable pub claim : Net → ℕ → Sheet → ℤ
-claim d c s = remainder d s -ℤ pos (ends-weigh d c)
+claim d c s = remainder d s -ℤ pos (endsWeigh d c)

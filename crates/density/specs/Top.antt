@@ -28,11 +28,17 @@ pub record AnswerSet (d : Net) (c : ℕ) (t : ℤ) (M : Set) : Type 0 where
   pub greatest : Bound d c t
   pub least : (S : Set) → Reaches d c t S → Inside d M S
 
--- none at K: no constraint has a top density above K
+-- "That it exists is part of the work.": c has a top density and an answer set
+pub record HasAnswerSet (d : Net) (c : ℕ) : Type 0 where
+  pub top : ℤ
+  pub set : Set
+  pub answer : AnswerSet d c top set
+
+-- 01, 'The questions', any dense: "none", no constraint has a top density above K
 abbrev pub NoneAt : Net → ℤ → Type 0
 NoneAt d K = (c : ℕ) (t : ℤ) → c < d .constraints → Top d c t → t ≤ℤ K
 
--- no set that holds a constraint has density above K
+-- the same said by sets: no set that holds a constraint has density above K
 abbrev pub NoSetAbove : Net → ℤ → Type 0
 NoSetAbove d K = (c : ℕ) → c < d .constraints → Bound d c K
 

@@ -1,16 +1,12 @@
-pub mod Tests
-pub mod Passed
-pub mod Faults
-pub mod Heads
-pub mod Order
-pub mod Refusals
-pub mod Enough
+-- what other crates cite: choices by tests, lists of values, the drawing in the arrays, a reading, what `read` answers, the weights
+pub mod Choice
+pub mod Tabulated
+pub mod DrawingIn
+pub mod Reading
 pub mod ReadInto
-pub mod Listed
-pub mod Stores
-pub mod Weighing
-pub mod Turn
-pub mod Taken
-pub mod Accepted
-pub mod Ranges
-pub mod Callers
+pub mod WeightRange
+-- what the proofs of this crate share
+mod Faults
+mod RecordAt
+mod Stores
+mod WeightsIn

@@ -1,13 +1,14 @@
 -- What the arrays of a drawing that was read hold. Assumes nothing.
 use mathlib.Core.Path.{_≡_}
-use mathlib.Core.List.{List, [], _∷_, _++_}
-use Prim.Native.Nat.{ℕ, zero, suc, _+_, _*_, _≤_, _<_}
+use mathlib.Core.List.{List}
+use Prim.Native.Nat.{ℕ, _+_, _*_, _≤_, _<_}
 use lib.ListN.{length, getD}
 use Rattle.drawing.specs.declared.Object.{Object}
 use Rattle.drawing.specs.declared.Constraint.{Constraint}
 use Rattle.drawing.specs.declared.Entries.{Entries}
 use Rattle.drawing.specs.Entry.{Drawing}
-use Rattle.limits.specs.Limits.{mostObjects, mostConstraints}
+use Rattle.drawing.specs.Tabulated.{tabulated}
+use Rattle.limits.specs.Limits.{mostObjects, mostConstraints, mostEnds}
 use Rattle.drawing.specs.Read.{accepted, unless, read}
 
 pub record Arrays : Type 0 where
@@ -25,11 +26,6 @@ arraysOf r = record {
   constraintKinds = r .«constraint_kinds»;
   constraintStated = r .«constraint_stated»;
 }
-
--- f 0, f 1, .. f (k - 1)
-unfoldable pub tabulated : {A : Type 0} → ℕ → (ℕ → A) → List A
-tabulated zero f = []
-tabulated (suc k) f = tabulated k f ++ (f k ∷ [])
 
 -- object i and constraint e of the arrays: constraint e has its ends at 2e and 2e + 1
 abbrev pub objectIn : Arrays → ℕ → Object
@@ -56,7 +52,7 @@ pub record ZeroFrom (long k : ℕ) (l : List ℕ) : Type 0 where
 pub record Tidy (n m : ℕ) (a : Arrays) : Type 0 where
   pub few-objects : n ≤ mostObjects
   pub few-constraints : m ≤ mostConstraints
-  pub ends-past : ZeroFrom (2 * mostConstraints) (2 * m) (a .ends)
+  pub ends-past : ZeroFrom mostEnds (2 * m) (a .ends)
   pub object-kinds-past : ZeroFrom mostObjects n (a .objectKinds)
   pub object-stated-past : ZeroFrom mostObjects n (a .objectStated)
   pub constraint-kinds-past : ZeroFrom mostConstraints m (a .constraintKinds)

@@ -30,8 +30,8 @@ abbrev pub kindOf : Drawing → ℕ → ℕ
 kindOf d i = objectAt d i .kind
 
 -- the drawing in which nothing has been read, and one entry more
-abbrev pub nothing : Drawing
-nothing = record { objects = []; constraints = [] }
+abbrev pub emptyDrawing : Drawing
+emptyDrawing = record { objects = []; constraints = [] }
 
 abbrev pub withObject : Drawing → Object → Drawing
 withObject d o = record { objects = d .objects ++ (o ∷ []); constraints = d .constraints }

@@ -1,6 +1,6 @@
 -- What is wrong with an entry, judged on its values. 01, 'What is turned away, in order'. A fault is its number there, and 0
 -- is none; each test has its own line, in the order of "Within one: .. 4, 5, 8, 6, 7". Assumes nothing.
-use Prim.Native.Nat.{ℕ}
+use Prim.Native.Nat.{ℕ, _≤_}
 use mathlib.Core.Bool.{not}
 use lib.ListN.{length}
 use lib.Dec.{eqb, leb, ltb}
@@ -10,6 +10,14 @@ use Rattle.drawing.specs.declared.Object.{Object}
 use Rattle.drawing.specs.declared.Constraint.{Constraint}
 use Rattle.drawing.specs.Entry.{Drawing, kindOf}
 use Rattle.limits.specs.Limits.{mostObjects, mostConstraints, mostWeight}
+
+-- the greatest number with which a drawing is refused: "Within one: .. Then 9"
+abbrev pub lastRefusal : ℕ
+lastRefusal = 9
+
+pub record RefusalNumber (n : ℕ) : Type 0 where
+  pub least : 1 ≤ n
+  pub most : n ≤ lastRefusal
 
 -- an object after n objects and m constraints
 unfoldable pub objectFault : ℕ → ℕ → Object → ℕ

@@ -1,7 +1,7 @@
 -- One record among the bytes. 01, 'The bytes of a drawing': "Every record: length of the body (two bytes), kind (two bytes),
 -- body. All numbers are little-endian." Assumes nothing.
 use Prim.Native.Nat.{ℕ, _+_, _*_}
-use mathlib.Core.Bool.{not, _||_}
+use mathlib.Core.Bool.{Bool, not, _||_}
 use mathlib.Core.List.{List}
 use lib.ListN.{length, getD}
 use lib.Dec.{eqb, ltb}
@@ -16,7 +16,7 @@ byteAt s at = getD s at 0
 unfoldable pub twoAt : List ℕ → ℕ → ℕ
 twoAt s at = byteAt s at + 256 * byteAt s (at + 1)
 
--- the record kinds, "1 object", "2 constraint", "3 end", and the length of each one's body
+-- the record kinds, "1 object", "2 constraint", "3 end"
 abbrev pub anObject : ℕ
 anObject = 1
 
@@ -26,8 +26,18 @@ aConstraint = 2
 abbrev pub anEnd : ℕ
 anEnd = 3
 
+-- the bytes of a head, of an object's body and of a constraint's; an end has none
+abbrev pub headSize : ℕ
+headSize = 4
+
+abbrev pub objectBodySize : ℕ
+objectBodySize = 2
+
+abbrev pub constraintBodySize : ℕ
+constraintBodySize = 6
+
 unfoldable pub bodyLength : ℕ → ℕ
-bodyLength kind = pick (eqb kind anObject) 2 (pick (eqb kind aConstraint) 6 0)
+bodyLength kind = pick (eqb kind anObject) objectBodySize (pick (eqb kind aConstraint) constraintBodySize 0)
 
 -- the head at a position: the length that it states, and its kind
 abbrev pub statedLength : List ℕ → ℕ → ℕ
@@ -37,16 +47,20 @@ abbrev pub recordKind : List ℕ → ℕ → ℕ
 recordKind s at = twoAt s (at + 2)
 
 -- where the record behind one of this kind starts
-abbrev pub next : ℕ → ℕ → ℕ
-next at kind = at + 4 + bodyLength kind
+abbrev pub nextRecord : ℕ → ℕ → ℕ
+nextRecord at kind = at + headSize + bodyLength kind
+
+-- whether a record kind is one of the three
+abbrev pub knownKind : ℕ → Bool
+knownKind kind = eqb kind anObject || eqb kind aConstraint || eqb kind anEnd
 
 -- "head short (1), 2, 3, body short (1)"
 unfoldable pub headFault : List ℕ → ℕ → ℕ
 headFault s at =
-    pick (ltb (length s) (at + 4)) 1  -- "the bytes end inside a record's head .., or before an end record"
-    (pick (not (eqb (recordKind s at) anObject || eqb (recordKind s at) aConstraint || eqb (recordKind s at) anEnd)) 2  -- "record kind not 1 to 3"
+    pick (ltb (length s) (at + headSize)) 1  -- "the bytes end inside a record's head .., or before an end record"
+    (pick (not (knownKind (recordKind s at))) 2  -- "record kind not 1 to 3"
     (pick (not (eqb (statedLength s at) (bodyLength (recordKind s at)))) 3  -- "length is not that of the kind"
-    (pick (ltb (length s) (next at (recordKind s at))) 1  -- "the bytes end inside a record's .. body"
+    (pick (ltb (length s) (nextRecord at (recordKind s at))) 1  -- "the bytes end inside a record's .. body"
     0)))
 
 -- "2 bytes: object kind, stated weight"
@@ -69,4 +83,4 @@ abbrev pub bodyOf : ℕ → List ℕ → ℕ → Record
 bodyOf kind s at = pick (eqb kind anObject) (object (objectBody s at)) (pick (eqb kind aConstraint) (constraint (constraintBody s at)) end)
 
 unfoldable pub recordAt : List ℕ → ℕ → Record
-recordAt s at = pick (eqb (headFault s at) 0) (bodyOf (recordKind s at) s (at + 4)) (faulty (headFault s at))
+recordAt s at = pick (eqb (headFault s at) 0) (bodyOf (recordKind s at) s (at + headSize)) (faulty (headFault s at))

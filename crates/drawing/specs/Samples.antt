@@ -6,7 +6,7 @@ use Rattle.drawing.specs.Choice.{pick}
 use Rattle.drawing.specs.Table.{objectKind, allowed, tableWeight}
 use Rattle.drawing.specs.declared.Object.{Object}
 use Rattle.drawing.specs.declared.Constraint.{Constraint}
-use Rattle.drawing.specs.Entry.{Drawing, nothing}
+use Rattle.drawing.specs.Entry.{Drawing, emptyDrawing}
 use Rattle.drawing.specs.Fault.{objectFault, constraintFault}
 use Rattle.drawing.specs.Format.{twoAt, bodyLength, headFault, recordAt}
 use Rattle.drawing.specs.Read.{refused, accepted, behindFault, readFrom, read}
@@ -30,16 +30,17 @@ abbrev pub distance : ℕ → ℕ → ℕ → Constraint
 distance a b stated = record { first = a; second = b; kind = 1; stated = stated }
 
 -- "The drawing that is one end record (00 00 03 00) passes with counts 0 and 0; no bytes at all is refused 1."
-pub nothing-passes : read (0 ∷ 0 ∷ 3 ∷ 0 ∷ []) ≡ accepted nothing
+pub empty-passes : read (0 ∷ 0 ∷ 3 ∷ 0 ∷ []) ≡ accepted emptyDrawing
 unfolding read readFrom behindFault recordAt headFault twoAt bodyLength pick
-nothing-passes = refl
+empty-passes = refl
 
 pub no-bytes : read [] ≡ refused 1
 unfolding read readFrom behindFault recordAt headFault pick
 no-bytes = refl
 
 -- C: three points, the distances 0-1, 1-2, 0-2
-pub drawing-C : read (pointRecord ++ pointRecord ++ pointRecord ++ distanceRecord 0 1 0 ++ distanceRecord 1 2 0 ++ distanceRecord 0 2 0 ++ endRecord)
+pub drawing-C :
+    read (pointRecord ++ pointRecord ++ pointRecord ++ distanceRecord 0 1 0 ++ distanceRecord 1 2 0 ++ distanceRecord 0 2 0 ++ endRecord)
     ≡ accepted (record { objects = aPoint ∷ aPoint ∷ aPoint ∷ []; constraints = distance 0 1 0 ∷ distance 1 2 0 ∷ distance 0 2 0 ∷ [] })
 unfolding read readFrom behindFault recordAt headFault twoAt bodyLength objectFault constraintFault objectKind tableWeight allowed pick
 drawing-C = refl

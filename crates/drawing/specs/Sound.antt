@@ -24,11 +24,11 @@ pub record SoundConstraint (n a b : ℕ) (c : Constraint) : Type 0 where
 -- an object or a constraint that may come after n objects and m constraints
 pub record NextObject (n m : ℕ) (o : Object) : Type 0 where
   pub first-come : m ≡ 0
-  pub room : n < mostObjects
+  pub in-limit : n < mostObjects
   pub sound : SoundObject o
 
 pub record NextConstraint (n m a b : ℕ) (c : Constraint) : Type 0 where
-  pub room : m < mostConstraints
+  pub in-limit : m < mostConstraints
   pub sound : SoundConstraint n a b c
 
 -- what an accepted drawing is
@@ -40,6 +40,6 @@ pub record SoundDrawing (d : Drawing) : Type 0 where
       → SoundConstraint (length (d .objects)) (kindOf d (constraintAt d e .first)) (kindOf d (constraintAt d e .second)) (constraintAt d e)
 
 -- 01, 'What it covers': "weights 1 to 15"
-pub record Weight (w : ℕ) : Type 0 where
+pub record FairWeight (w : ℕ) : Type 0 where
   pub least : 1 ≤ w
   pub most : w ≤ mostWeight

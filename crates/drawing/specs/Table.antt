@@ -11,8 +11,11 @@ point k = eqb k 1
 abbrev pub line : ℕ → Bool
 line k = eqb k 2
 
+abbrev pub freeCircle : ℕ → Bool
+freeCircle k = eqb k 4
+
 abbrev pub circle : ℕ → Bool
-circle k = eqb k 3 || eqb k 4
+circle k = eqb k 3 || freeCircle k
 
 abbrev pub cluster : ℕ → Bool
 cluster k = eqb k 5
@@ -23,7 +26,7 @@ objectKind k = point k || line k || circle k || cluster k
 
 -- "1 point, weight 2; 2 line, 2; 3 circle of given radius, 2; 4 circle of free radius, 3; 5 rigid cluster, 3"
 unfoldable pub objectTable : ℕ → ℕ
-objectTable k = pick (eqb k 4 || cluster k) 3 2
+objectTable k = pick (freeCircle k || cluster k) 3 2
 
 -- both ends are the one
 abbrev pub both : (ℕ → Bool) → ℕ → ℕ → Bool

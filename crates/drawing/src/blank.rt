@@ -2,13 +2,12 @@
 use limits::CONSTRAINTS;
 use limits::ENDS;
 use limits::OBJECTS;
-ghost use Prim.Native.Nat.{_*_};
-ghost use Rattle.limits.specs.Limits.{mostObjects, mostConstraints};
+ghost use Rattle.limits.specs.Limits.{mostObjects, mostConstraints, mostEnds};
 ghost use Rattle.drawing.specs.Arrays.{ZeroFrom};
 
 // The ends of no constraint.
 pub fn no_ends() -> [u16; ENDS]
-    ensures { λ r. ⌜ ZeroFrom (2 * mostConstraints) 0 r ⌝ }
+    ensures { λ r. ⌜ ZeroFrom mostEnds 0 r ⌝ }
 {
     [0u16; ENDS]
 }

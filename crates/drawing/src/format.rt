@@ -5,7 +5,8 @@ use crate::Object;
 ghost use mathlib.Core.Path.{_≡_};
 ghost use Prim.Native.Nat.{_+_, _≤_, _<_};
 ghost use lib.ListN.{length};
-ghost use Rattle.drawing.specs.Format.{twoAt, bodyLength, headFault, objectBody, constraintBody, recordAt};
+ghost use Rattle.drawing.specs.Format.{objectBodySize, constraintBodySize, bodyLength};
+ghost use Rattle.drawing.specs.Format.{twoAt, headFault, objectBody, constraintBody, recordAt};
 ghost use Rattle.drawing.specs.Found.{meant};
 
 // The bytes of a record's head and of each kind's body, and the kinds.
@@ -66,7 +67,7 @@ fn head_fault(s: &[u8], at: usize) -> u32
 
 // The body of an object.
 fn object_body(s: &[u8], at: usize) -> Object
-    requires { ⌜ at + 1 < length (now s) ⌝ }
+    requires { ⌜ at + objectBodySize ≤ length (now s) ⌝ }
     ensures { λ r. ⌜ r ≡ objectBody (now (s .entry)) at ⌝ }
 {
     Object {
@@ -77,7 +78,7 @@ fn object_body(s: &[u8], at: usize) -> Object
 
 // The body of a constraint.
 fn constraint_body(s: &[u8], at: usize) -> Constraint
-    requires { ⌜ at + 5 < length (now s) ⌝ }
+    requires { ⌜ at + constraintBodySize ≤ length (now s) ⌝ }
     ensures { λ r. ⌜ r ≡ constraintBody (now (s .entry)) at ⌝ }
 {
     Constraint {

@@ -46,7 +46,8 @@ pub fn weigh_constraints(
     stated: &[u8; CONSTRAINTS],
     weights: &mut [u8; CONSTRAINTS],
 )
-    requires { ⌜ (m ≤ mostConstraints) × (length (now «object_kinds») ≡ mostObjects) × (ZeroFrom mostConstraints 0 (now weights)) ⌝ }
+    requires { ⌜ (m ≤ mostConstraints) × (length (now «object_kinds») ≡ mostObjects)
+        × (ZeroFrom mostConstraints 0 (now weights)) ⌝ }
     ensures { λ _. ⌜ Filled mostConstraints m
         (constraintValue (now (ends .entry)) (now («object_kinds» .entry)) (now (kinds .entry)) (now (stated .entry)))
         (now (weights .exit)) ⌝ }

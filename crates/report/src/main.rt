@@ -1,15 +1,15 @@
 // The report: reads a drawing on standard input and prints its counts, the top density and the members of each constraint's answer set,
 // and whether any set is dense at K = -3; or the number of its refusal. What is printed is held to stored output, and not proved.
+use counter::net::NetArrays;
+use counter::net::net_of;
 use counter::range::is_above;
 use libc::STDOUT_FILENO;
-use limits::CONSTRAINTS;
-use limits::ENDS;
 use limits::OBJECTS;
 use routes::answer::answer;
 use routes::answer::base;
 ghost use Prim.Native.Nat.{_≤_, _<_};
 ghost use Rattle.limits.specs.Limits.{mostObjects};
-ghost use Rattle.counter.specs.Counting.{Countable};
+ghost use Rattle.counter.specs.NetFor.{Countable};
 
 // 01: "6,000 bytes at most; that prefix gives every longer input its refusal".
 const INPUT: usize = 6000;
@@ -24,42 +24,35 @@ fn main() {
 }
 
 fn report(drawing: &[u8]) {
-    let read = drawing::read(drawing);
-    if read.code != 0 {
+    let net = net_of(drawing);
+    if net.code != 0 {
         say(b"refused ");
-        say_number(read.code as usize);
+        say_number(net.code as usize);
         say(b"\n");
         return;
     }
-    let n = read.objects;
-    let m = read.constraints;
     say(b"objects ");
-    say_number(n);
+    say_number(net.objects);
     say(b" constraints ");
-    say_number(m);
+    say_number(net.constraints);
     say(b"\n");
-    let weights = drawing::weigh(read);
-    let ends = read.ends;
-    let objects = weights.objects;
-    let takes = weights.constraints;
-    say_last(m, say_lines(n, m, &ends, &objects, &takes));
+    say_last(net.constraints, say_lines(net));
 }
 
-// A line for each constraint. Answers the lowest-numbered one above K, or m.
-fn say_lines(
-    n: usize,
-    m: usize,
-    ends: &[u16; ENDS],
-    weights: &[u8; OBJECTS],
-    takes: &[u8; CONSTRAINTS],
-) -> usize
-    requires { ⌜ Countable n m (now ends) (now weights) (now takes) ⌝ }
+// A line for each constraint. Answers the lowest-numbered one above K, or the number of constraints.
+fn say_lines(net: NetArrays) -> usize
+    requires { ⌜ Countable net ⌝ }
 {
-    let from = base(n, m, ends, weights, takes);
+    let n = net.objects;
+    let m = net.constraints;
+    let ends = net.ends;
+    let weights = net.weights;
+    let takes = net.takes;
+    let from = base(n, m, &ends, &weights, &takes);
     let mut lowest = m;
     let mut c: usize = 0;
     while c < m {
-        let top = answer(n, m, c, ends, weights, takes, from);
+        let top = answer(n, m, c, &ends, &weights, &takes, from);
         if lowest == m {
             if is_above(top.above, top.below, OVERCONSTRAINED) {
                 lowest = c;

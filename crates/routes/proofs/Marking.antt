@@ -11,17 +11,17 @@ use Rattle.density.proofs.Sums.{counted-le}
 use Rattle.limits.specs.Limits.{mostObjects}
 use Rattle.routes.specs.At.{at, Marked, Clear}
 use Rattle.routes.specs.State.{State, state, Sized, Grown, clears, unmarked}
-use Rattle.routes.proofs.Small.{same-or-not}
+use Rattle.routes.proofs.Cases.{same-or-not}
 use Rattle.routes.proofs.Sums.{counted-here, sum-at, sum-le-count}
 use Rattle.routes.proofs.Places.{at-set-here, at-set-off}
 
 pub marked-here : (l : List ℕ) (x : ℕ) → x < length l → Marked (set l x 1) x
 marked-here l x b = omega (arith, at-set-here l x 1 x b refl)
 
-pub marked-still : (l : List ℕ) (x y : ℕ) → x < length l → Marked l y → Marked (set l x 1) y
+marked-still : (l : List ℕ) (x y : ℕ) → x < length l → Marked l y → Marked (set l x 1) y
 marked-still l x y b h = ⊎-elim (λ e. omega (arith, at-set-here l x 1 y b e)) (λ n. omega (arith, at-set-off l x 1 y n)) (same-or-not y x)
 
-pub clears-marked : (k : ℕ) (l : List ℕ) (x : ℕ) → x < k → x < length l → Clear l x → clears k (set l x 1) + 1 ≡ clears k l
+clears-marked : (k : ℕ) (l : List ℕ) (x : ℕ) → x < k → x < length l → Clear l x → clears k (set l x 1) + 1 ≡ clears k l
 unfolding clears
 clears-marked k l x b c h =
     omega (
@@ -32,7 +32,7 @@ clears-marked k l x b c h =
       counted-here (at l x) 0 1 h,
     )
 
-pub clears-le : (k : ℕ) (l : List ℕ) → clears k l ≤ k
+clears-le : (k : ℕ) (l : List ℕ) → clears k l ≤ k
 unfolding clears
 clears-le k l = sum-le-count k (λ x. counted (eqb (at l x) 0) 1) (λ x b. counted-le (eqb (at l x) 0) 1)
 
@@ -47,8 +47,8 @@ mark-constraint e s = state (s .objects) (set (s .constraints) e 1) (s .shares) 
 pub grown-same : (s : State) → Grown s s
 grown-same s = record { objects = λ v h. h; constraints = λ e h. h }
 
-pub grown-then : (s t u : State) → Grown s t → Grown t u → Grown s u
-grown-then s t u g h = record {
+pub grown-then : {s t u : State} → Grown s t → Grown t u → Grown s u
+grown-then g h = record {
   objects = λ v p. h .objects v (g .objects v p);
   constraints = λ e p. h .constraints e (g .constraints e p);
 }

@@ -1,5 +1,5 @@
 -- Laws of a route that was found. Assumes nothing.
-use mathlib.Core.Path.{_≡_, sym, ap, subst, _∙_}
+use mathlib.Core.Path.{_≡_, sym, ap, ap₂, subst, _∙_}
 use mathlib.Core.Logic.{⊎-elim}
 use mathlib.Core.List.{List}
 use Prim.Native.Nat.{ℕ, _+_, _-_, _*_, _/_, _<_, _≤_}
@@ -9,19 +9,19 @@ use lib.Dec.{eqb}
 use Rattle.density.specs.Sum.{counted}
 use Rattle.limits.specs.Limits.{mostObjects, mostConstraints, mostEnds}
 use Rattle.routes.specs.At.{at, Clear}
-use Rattle.routes.specs.State.{State, state, Sized, Grown, Bounded, bothShares, load}
+use Rattle.routes.specs.State.{State, state, Sized, Unmoved, Grown, Bounded, bothShares, load}
 use Rattle.routes.specs.Search.{Moved, lowered, raised, shifted}
-use Rattle.routes.proofs.Small.{same-or-not}
+use Rattle.routes.proofs.Cases.{same-or-not}
 use Rattle.routes.proofs.Sums.{counted-here, counted-off}
 use Rattle.routes.proofs.Places.{at-set-here, at-set-off, load-raised, load-lowered, total-raised, total-lowered, share-le-load}
 
 -- v receives one share more at the place i, from its room
-abbrev pub gave : ℕ → ℕ → State → State
-gave i v s = state (s .objects) (s .constraints) (raised i (s .shares)) (set (s .room) v (at (s .room) v - 1))
+abbrev pub used-room : ℕ → ℕ → State → State
+used-room i v s = state (s .objects) (s .constraints) (raised i (s .shares)) (set (s .room) v (at (s .room) v - 1))
 
-pub moved-gave : (m i v : ℕ) (ends : List ℕ) (s : State) → Sized s → m ≤ mostConstraints → i < 2 * m → at ends i ≡ v → v < mostObjects
-    → Clear (s .objects) v → 0 < at (s .room) v → Moved m (i / 2) ends s (gave i v s)
-moved-gave m i v ends s z few b is small clear some =
+pub moved-used-room : (m i v : ℕ) (ends : List ℕ) (s : State) → Sized s → m ≤ mostConstraints → i < 2 * m → at ends i ≡ v → v < mostObjects
+    → Clear (s .objects) v → 0 < at (s .room) v → Moved m (i / 2) ends s (used-room i v s)
+moved-used-room m i v ends s z few b is small clear some =
     let inside : i < length (s .shares) = omega (arith, z .shares) in
     let inroom : v < length (s .room) = omega (arith, z .room) in
     record {
@@ -42,13 +42,17 @@ moved-gave m i v ends s z few b is small clear some =
 abbrev pub passed : ℕ → ℕ → State → State
 passed k i s = state (s .objects) (s .constraints) (shifted k i (s .shares)) (s .room)
 
+-- what each object receives and has room for is the same where no share has moved
+pub same-load : (m : ℕ) (ends : List ℕ) (s t : State) → Unmoved s t → (v : ℕ) → load m ends (t .shares) v + at (t .room) v ≡ load m ends (s .shares) v + at (s .room) v
+same-load m ends s t same v = ap₂ (λ (a b : List ℕ). load m ends a v + at b v) (same .shares) (same .room)
+
 -- a search that went on from more marks, with the same shares and rooms, moved for the earlier marks too
-pub moved-after : (m e : ℕ) (ends : List ℕ) (s t u : State) → t .shares ≡ s .shares → t .room ≡ s .room → Grown s t → Moved m e ends t u → Moved m e ends s u
-moved-after m e ends s t u same-s same-r grown h = record {
-  totals = λ x. h .totals x ∙ ap (λ (l : List ℕ). bothShares l x + counted (eqb e x) 1) same-s;
-  loads = λ v. h .loads v ∙ ap (λ (a : List ℕ). load m ends a v + at (t .room) v) same-s ∙ ap (λ (a : List ℕ). load m ends (s .shares) v + at a v) same-r;
-  rooms = λ v. subst (λ (a : List ℕ). at (u .room) v ≤ at a v) same-r (h .rooms v);
-  kept = λ k l y. h .kept k l (grown .objects (at ends k) y) ∙ ap (λ (a : List ℕ). at a k) same-s;
+pub moved-after : {m e : ℕ} {ends : List ℕ} {s t u : State} → Unmoved s t → Grown s t → Moved m e ends t u → Moved m e ends s u
+moved-after {m} {e} {ends} {s} {t} {u} same grown h = record {
+  totals = λ x. h .totals x ∙ ap (λ (l : List ℕ). bothShares l x + counted (eqb e x) 1) (same .shares);
+  loads = λ v. h .loads v ∙ same-load m ends s t same v;
+  rooms = λ v. subst (λ (a : List ℕ). at (u .room) v ≤ at a v) (same .room) (h .rooms v);
+  kept = λ k l y. h .kept k l (grown .objects (at ends k) y) ∙ ap (λ (a : List ℕ). at a k) (same .shares);
 }
 
 -- the constraint k/2 gave one share more, and the one at k moves to the place i of the same object, which was not marked
@@ -79,9 +83,8 @@ moved-passed m i k v ends s u long few bi bk ei ek clear some h =
 pub share-small : (m i : ℕ) (ends : List ℕ) (s : State) → Bounded m ends s → i < 2 * m → at (s .shares) i ≤ 255
 share-small m i ends s h b = omega (arith, h i b, share-le-load m ends (s .shares) i b)
 
-pub bounded-moved : (m e : ℕ) (ends : List ℕ) (s u : State) → Bounded m ends s → Moved m e ends s u → Bounded m ends u
-bounded-moved m e ends s u h moved i b = omega (arith, h i b, moved .loads (at ends i))
+pub bounded-moved : {m e : ℕ} {ends : List ℕ} {s u : State} → Bounded m ends s → Moved m e ends s u → Bounded m ends u
+bounded-moved {ends = ends} h moved i b = omega (arith, h i b, moved .loads (at ends i))
 
-pub bounded-same : (m : ℕ) (ends : List ℕ) (s t : State) → t .shares ≡ s .shares → t .room ≡ s .room → Bounded m ends s → Bounded m ends t
-bounded-same m ends s t same-s same-r h i b =
-    omega (arith, h i b, ap (λ (l : List ℕ). load m ends l (at ends i)) same-s, ap (λ (l : List ℕ). at l (at ends i)) same-r)
+pub bounded-same : (m : ℕ) (ends : List ℕ) (s t : State) → Unmoved s t → Bounded m ends s → Bounded m ends t
+bounded-same m ends s t same h i b = omega (arith, h i b, same-load m ends s t same (at ends i))

@@ -1,10 +1,11 @@
--- Loads and totals under a store at one place. Assumes nothing.
+-- Places: the two of a constraint, what stands there after a store, and loads and totals then. Assumes nothing.
 use mathlib.Core.Path.{_≡_, refl, sym, ap, subst, _∙_}
 use mathlib.Core.Logic.{_≢_, ⊎-elim}
 use mathlib.Core.List.{List}
-use Prim.Native.Nat.{ℕ, _+_, _-_, _*_, _/_, _<_, _≤_}
+use Prim.Native.Nat.{ℕ, zero, _+_, _-_, _*_, _/_, _<_, _≤_}
 use native.Mathlib.Omega.{arith}
-use lib.ListN.{length, set}
+use native.Mathlib.Decide.{decLt}
+use lib.ListN.{length, set, replicate, length-replicate, getD-replicate, List·getD-eq-default}
 use lib.Seq.{getD-set-same, getD-set-other}
 use lib.Dec.{eqb}
 use Rattle.density.specs.Sum.{sum, counted}
@@ -12,7 +13,7 @@ use Rattle.density.proofs.Sums.{counted-add, term-le}
 use Rattle.routes.specs.At.{at}
 use Rattle.routes.specs.State.{bothShares, load}
 use Rattle.routes.specs.Search.{lowered, raised}
-use Rattle.routes.proofs.Small.{same-or-not}
+use Rattle.routes.proofs.Cases.{same-or-not}
 use Rattle.routes.proofs.Sums.{counted-here, counted-off, sum-at}
 
 pub at-set-here : (l : List ℕ) (i y q : ℕ) → i < length l → q ≡ i → at (set l i y) q ≡ y
@@ -21,9 +22,25 @@ at-set-here l i y q b e = subst (λ (j : ℕ). at (set l i y) j ≡ y) (sym e) (
 pub at-set-off : (l : List ℕ) (i y q : ℕ) → q ≢ i → at (set l i y) q ≡ at l q
 at-set-off l i y q n = getD-set-other l i q y 0 n
 
+-- each place of e is one of its two
+pub by-place : (P : ℕ → Type 0) (e : ℕ) {i : ℕ} → i / 2 ≡ e → P (2 * e) → P (2 * e + 1) → P i
+by-place P e {i} q one two =
+    ⊎-elim (λ y. subst P (sym y) one) (λ n. let y : 2 * e + 1 ≡ i = omega arith in subst P y two) (same-or-not i (2 * e))
+
+-- ---- an array of zeros
+
+pub length-zeros : (n : ℕ) → length (replicate n zero) ≡ n
+length-zeros n = length-replicate n zero
+
+pub at-zeros : (n i : ℕ) → at (replicate n 0) i ≡ 0
+at-zeros n i = elim (decLt i n) [
+  | yes b ↦ getD-replicate n i 0 0 b
+  | no c ↦ List·getD-eq-default (replicate n 0) 0 {n = i} (omega (arith, length-zeros n))
+]
+
 -- ---- what an object receives
 
-pub load-set : (m : ℕ) (ends shares : List ℕ) (i y v : ℕ) → i < 2 * m → i < length shares
+load-set : (m : ℕ) (ends shares : List ℕ) (i y v : ℕ) → i < 2 * m → i < length shares
     → load m ends (set shares i y) v + counted (eqb (at ends i) v) (at shares i) ≡ load m ends shares v + counted (eqb (at ends i) v) y
 unfolding load
 load-set m ends shares i y v l b =
@@ -49,7 +66,7 @@ share-le-load m ends shares i l =
 
 -- ---- what a constraint gives
 
-pub total-set : (shares : List ℕ) (i y x : ℕ) → i < length shares
+total-set : (shares : List ℕ) (i y x : ℕ) → i < length shares
     → bothShares (set shares i y) x + counted (eqb (i / 2) x) (at shares i) ≡ bothShares shares x + counted (eqb (i / 2) x) y
 total-set shares i y x b =
     ⊎-elim

@@ -9,7 +9,7 @@ use lib.Dec.{eqb}
 use borrow.Author.Tests.{eq-eqb, ne-eqb}
 use Rattle.density.specs.Sum.{sum, counted}
 use Rattle.density.proofs.Sums.{sum-same}
-use Rattle.routes.proofs.Small.{same-or-not}
+use Rattle.routes.proofs.Cases.{same-or-not}
 
 pub counted-here : (i v y : ℕ) → i ≡ v → counted (eqb i v) y ≡ y
 counted-here i v y e = ap (λ (b : Bool). counted b y) (eq-eqb i v e)

@@ -31,7 +31,8 @@ sharesIn shares i e = at shares (place i e)
 abbrev pub members : List ℕ → Set
 members objects v = ltb 0 (at objects v)
 
--- 01, 'What it covers': within the limits, every end names an object, no constraint has both ends the same, and no weight is above its limit
+-- 01, 'What it covers': within the limits, every end names an object, no constraint has both ends the same, and no
+-- weight is above its limit
 pub record Fair (n m : ℕ) (ends weights takes : List ℕ) : Type 0 where
   pub few-objects : n ≤ mostObjects
   pub few-constraints : m ≤ mostConstraints

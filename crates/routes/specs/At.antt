@@ -8,8 +8,10 @@ use lib.ListN.{getD}
 abbrev pub at : List ℕ → ℕ → ℕ
 at l i = getD l i 0
 
+-- x is marked: anything but 0 stands there
 abbrev pub Marked : List ℕ → ℕ → Type 0
 Marked l x = 0 < at l x
 
+-- x is not marked
 abbrev pub Clear : List ℕ → ℕ → Type 0
 Clear l x = at l x ≡ 0

@@ -1,9 +1,11 @@
+-- what a reader must believe: the arrays as a net, a sheet and a set, and what the answer for a constraint is
 pub mod At
-pub mod Wires
-pub mod State
-pub mod Route
-pub mod Search
-pub mod Kept
-pub mod Release
 pub mod Arrays
 pub mod Solved
+-- what only states the contracts of the functions
+pub mod Chains
+pub mod State
+pub mod Search
+pub mod Settle
+pub mod Release
+pub mod Answer

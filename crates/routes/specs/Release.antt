@@ -6,14 +6,16 @@ use Prim.Native.Nat.{ℕ, _*_, _<_}
 use lib.ListN.{length}
 use Rattle.limits.specs.Limits.{mostObjects, mostEnds}
 use Rattle.routes.specs.At.{at}
-use Rattle.routes.specs.Wires.{Wired}
+use Rattle.routes.specs.Chains.{Chained}
 
+-- what releasing the object v asks
 pub record Releasing (m v : ℕ) (ends head next shares room : List ℕ) : Type 0 where
-  pub wired : Wired m ends head next
+  pub chained : Chained m ends head next
   pub object : v < mostObjects
   pub shares-long : length shares ≡ mostEnds
   pub room-long : length room ≡ mostObjects
 
+-- no share is left at v, and it has no room; all else is as before
 pub record Released (m v : ℕ) (ends shares room shares′ room′ : List ℕ) : Type 0 where
   pub shares-long : length shares′ ≡ mostEnds
   pub room-long : length room′ ≡ mostObjects

@@ -9,6 +9,7 @@ use Rattle.density.specs.Sum.{sum, counted}
 use Rattle.limits.specs.Limits.{mostObjects, mostConstraints, mostEnds}
 use Rattle.routes.specs.At.{at, Marked}
 
+-- the marks of the objects and of the constraints, the shares by place and the rooms
 pub record State : Type 0 where
   pub objects : List ℕ
   pub constraints : List ℕ
@@ -18,6 +19,7 @@ pub record State : Type 0 where
 abbrev pub state : List ℕ → List ℕ → List ℕ → List ℕ → State
 state o c s r = record { objects = o; constraints = c; shares = s; room = r }
 
+-- each array has its full length
 pub record Sized (s : State) : Type 0 where
   pub objects : length (s .objects) ≡ mostObjects
   pub constraints : length (s .constraints) ≡ mostConstraints
@@ -44,6 +46,15 @@ unmarked m s = clears mostObjects (s .objects) + clears m (s .constraints)
 abbrev pub Bounded : ℕ → List ℕ → State → Type 0
 Bounded m ends s = (i : ℕ) → i < 2 * m → load m ends (s .shares) (at ends i) + at (s .room) (at ends i) ≤ 255
 
+-- the shares and the rooms are the same
+pub record Unchanged (a b a′ b′ : List ℕ) : Type 0 where
+  pub shares : a′ ≡ a
+  pub room : b′ ≡ b
+
+-- no share has moved
+abbrev pub Unmoved : State → State → Type 0
+Unmoved s s′ = Unchanged (s .shares) (s .room) (s′ .shares) (s′ .room)
+
 -- every mark stays
 pub record Grown (s s′ : State) : Type 0 where
   pub objects : (v : ℕ) → Marked (s .objects) v → Marked (s′ .objects) v
@@ -53,6 +64,9 @@ pub record Grown (s s′ : State) : Type 0 where
 abbrev pub BothIn : List ℕ → (ℕ → Bool) → ℕ → Type 0
 BothIn ends S e = (i : ℕ) → i / 2 ≡ e → T (S (at ends i))
 
--- 01: "from a full object to any constraint that has put a share there": S contains what the routes come to from its marked objects
+-- 01: "from a full object to any constraint that has put a share there": S contains what the routes come to from its
+-- marked objects
 abbrev pub GoesOn : ℕ → List ℕ → State → (ℕ → Bool) → Type 0
-GoesOn m ends s S = (k : ℕ) → k < 2 * m → Marked (s .objects) (at ends k) → T (S (at ends k)) → 0 < at (s .shares) k → BothIn ends S (k / 2)
+GoesOn m ends s S =
+    (k : ℕ) → k < 2 * m → Marked (s .objects) (at ends k) → T (S (at ends k)) → 0 < at (s .shares) k
+    → BothIn ends S (k / 2)

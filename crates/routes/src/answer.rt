@@ -2,11 +2,11 @@
 // One base distribution serves every constraint; 'from nothing' is the same with an empty start.
 // n and m count the objects and the constraints in use.
 use crate::chains::chain;
+use crate::ends::ends_of;
+use crate::number::one_byte;
 use crate::release::release;
 use crate::search::Marks;
-use crate::search::place_at;
 use crate::settle::left;
-use crate::settle::number;
 use crate::settle::settle;
 use limits::CONSTRAINTS;
 use limits::ENDS;
@@ -14,9 +14,9 @@ use limits::OBJECTS;
 ghost use mathlib.Core.Path.{_≡_};
 ghost use lib.ListN.{length};
 ghost use Rattle.limits.specs.Limits.{mostObjects};
-ghost use Rattle.routes.specs.State.{state};
 ghost use Rattle.routes.specs.Arrays.{Fair};
-ghost use Rattle.routes.specs.Solved.{Spread, AskedFor, Solved, Summing, Remains};
+ghost use Rattle.routes.specs.Solved.{Solved};
+ghost use Rattle.routes.specs.Answer.{stateOf, Spread, Solving, EachWithin, Remainder};
 
 // What has been given: the chains, the shares by place, the room of each object, and the marks of the stuck.
 pub struct Distribution {
@@ -29,7 +29,7 @@ pub struct Distribution {
 }
 
 // The answer set, the sheet that shows its density, and the density, which is above less below.
-pub struct Top {
+pub struct Solution {
     pub above: usize,
     pub below: usize,
     pub shares: [u16; ENDS],
@@ -52,7 +52,7 @@ pub fn nothing(
     takes: &[u8; CONSTRAINTS],
 ) -> Distribution
     requires { ⌜ Fair n m (now ends) (now weights) (now takes) ⌝ }
-    ensures { λ r. ⌜ Spread m (now (ends .entry)) (now (weights .entry)) (now (takes .entry)) (r .head) (r .next) (state (r .marks .objects) (r .stuck) (r .shares) (r .room)) ⌝ }
+    ensures { λ r. ⌜ Spread m (now (ends .entry)) (now (weights .entry)) (now (takes .entry)) (r .head) (r .next) (stateOf r) ⌝ }
 {
     let chains = chain(m, ends);
     let head = chains.head;
@@ -82,7 +82,7 @@ pub fn base(
     takes: &[u8; CONSTRAINTS],
 ) -> Distribution
     requires { ⌜ Fair n m (now ends) (now weights) (now takes) ⌝ }
-    ensures { λ r. ⌜ Spread m (now (ends .entry)) (now (weights .entry)) (now (takes .entry)) (r .head) (r .next) (state (r .marks .objects) (r .stuck) (r .shares) (r .room)) ⌝ }
+    ensures { λ r. ⌜ Spread m (now (ends .entry)) (now (weights .entry)) (now (takes .entry)) (r .head) (r .next) (stateOf r) ⌝ }
 {
     let start = nothing(n, m, ends, weights, takes);
     let head = start.head;
@@ -114,8 +114,8 @@ pub fn base(
 
 // The sum of the weight that all constraints have left.
 fn remainder(m: usize, shares: &[u16; ENDS], takes: &[u8; CONSTRAINTS]) -> usize
-    requires { ⌜ Summing m (now takes) (now shares) ⌝ }
-    ensures { λ r. ⌜ Remains m (now (takes .entry)) (now (shares .entry)) r ⌝ }
+    requires { ⌜ EachWithin m (now takes) (now shares) ⌝ }
+    ensures { λ r. ⌜ Remainder m (now (takes .entry)) (now (shares .entry)) r ⌝ }
 {
     let mut sum: usize = 0;
     let mut e: usize = 0;
@@ -135,9 +135,11 @@ pub fn answer(
     weights: &[u8; OBJECTS],
     takes: &[u8; CONSTRAINTS],
     from: Distribution,
-) -> Top
-    requires { ⌜ AskedFor n m c (now ends) (now weights) (now takes) (from .head) (from .next) (state (from .marks .objects) (from .stuck) (from .shares) (from .room)) ⌝ }
-    ensures { λ r. ⌜ Solved n m c (now (ends .entry)) (now (weights .entry)) (now (takes .entry)) (r .marks .objects) (r .shares) (r .above) (r .below) ⌝ }
+) -> Solution
+    requires { ⌜ Solving n m c (now ends) (now weights) (now takes) (from .head) (from .next) (stateOf from) ⌝ }
+    ensures { λ r.
+        ⌜ Solved n m c (now (ends .entry)) (now (weights .entry)) (now (takes .entry))
+        (r .marks .objects) (r .shares) (r .above) (r .below) ⌝ }
 {
     let head = from.head;
     let next = from.next;
@@ -145,8 +147,9 @@ pub fn answer(
     let mut room = from.room;
     let mut stuck = from.stuck;
     let dead = from.marks;
-    let one = place_at(2 * c, ends);
-    let two = place_at(2 * c + 1, ends);
+    let both = ends_of(c, ends);
+    let one = both.first;
+    let two = both.second;
     release(m, one, &mut shares, &mut room, ends, &head, &next);
     release(m, two, &mut shares, &mut room, ends, &head, &next);
     let marks = settle(
@@ -161,8 +164,8 @@ pub fn answer(
         &next,
     );
     let above = remainder(m, &shares, takes);
-    let below = number(weights[one]) + number(weights[two]);
-    Top {
+    let below = one_byte(weights[one]) + one_byte(weights[two]);
+    Solution {
         above,
         below,
         shares,

@@ -15,7 +15,9 @@ pub fn release(
     next: &[u16; ENDS],
 )
     requires { ⌜ Releasing m v (now ends) (now head) (now next) (now shares) (now room) ⌝ }
-    ensures { λ _. ⌜ Released m v (now (ends .entry)) (now (shares .entry)) (now (room .entry)) (now (shares .exit)) (now (room .exit)) ⌝ }
+    ensures { λ _.
+        ⌜ Released m v (now (ends .entry))
+        (now (shares .entry)) (now (room .entry)) (now (shares .exit)) (now (room .exit)) ⌝ }
 {
     let mut left = head_of(v, head);
     while left != 0 {

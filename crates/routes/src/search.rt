@@ -1,4 +1,5 @@
 // The route search: from a constraint to its objects, and from a full object to the constraints with a share there.
+use crate::number::two_bytes;
 use limits::CONSTRAINTS;
 use limits::ENDS;
 use limits::OBJECTS;
@@ -7,8 +8,8 @@ ghost use Prim.Native.Nat.{_<_};
 ghost use Rattle.limits.specs.Limits.{mostObjects, mostEnds};
 ghost use Rattle.routes.specs.At.{at};
 ghost use Rattle.routes.specs.State.{state};
-ghost use Rattle.routes.specs.Route.{routeOf};
-ghost use Rattle.routes.specs.Search.{ReadyConstraint, ReadyObject, FromConstraint, FromObject, Waiting, Giving, Given, Shifting, shifted};
+ghost use Rattle.routes.specs.Search.{routeOf, ReadyConstraint, ReadyObject, FromConstraint, FromObject};
+ghost use Rattle.routes.specs.Search.{Waiting, UsingRoom, UsedRoom, Shifting, shifted};
 
 // The set of marked objects: a mark for each object, 0 for none.
 pub struct Marks {
@@ -39,7 +40,7 @@ pub fn place_at(i: usize, list: &[u16; ENDS]) -> usize
     requires { ⌜ i < mostEnds ⌝ }
     ensures { λ r. ⌜ r ≡ at (now (list .entry)) i ⌝ }
 {
-    wide(list[i])
+    two_bytes(list[i])
 }
 
 // One more than the last place of an object.
@@ -47,14 +48,7 @@ pub fn head_of(v: usize, head: &[u16; OBJECTS]) -> usize
     requires { ⌜ v < mostObjects ⌝ }
     ensures { λ r. ⌜ r ≡ at (now (head .entry)) v ⌝ }
 {
-    wide(head[v])
-}
-
-// A share, an object or a place as a number to count with.
-pub fn wide(x: u16) -> usize
-    ensures { λ r. ⌜ r ≡ x ⌝ }
-{
-    x as usize
+    two_bytes(head[v])
 }
 
 // Whether the constraint at place k has a share there and is not marked.
@@ -69,9 +63,9 @@ fn waiting(k: usize, stuck: &[u8; CONSTRAINTS], shares: &[u16; ENDS]) -> bool
 }
 
 // The object v, which has room, receives one share more at place i.
-fn give(i: usize, v: usize, shares: &mut [u16; ENDS], room: &mut [u8; OBJECTS])
-    requires { ⌜ Giving i v (now shares) (now room) ⌝ }
-    ensures { λ _. ⌜ Given i v (now (shares .entry)) (now (room .entry)) (now (shares .exit)) (now (room .exit)) ⌝ }
+fn use_room(i: usize, v: usize, shares: &mut [u16; ENDS], room: &mut [u8; OBJECTS])
+    requires { ⌜ UsingRoom i v (now shares) (now room) ⌝ }
+    ensures { λ _. ⌜ UsedRoom i v (now (shares .entry)) (now (room .entry)) (now (shares .exit)) (now (room .exit)) ⌝ }
 {
     shares[i] += 1;
     room[v] -= 1;
@@ -98,8 +92,12 @@ pub fn from_constraint(
     head: &[u16; OBJECTS],
     next: &[u16; ENDS],
 ) -> Route
-    requires { ⌜ ReadyConstraint m e (now ends) (now head) (now next) (state (marks .objects) (now stuck) (now shares) (now room)) ⌝ }
-    ensures { λ r. ⌜ FromConstraint m e (now (ends .entry)) (state (marks .objects) (now (stuck .entry)) (now (shares .entry)) (now (room .entry))) (state (r .marks .objects) (now (stuck .exit)) (now (shares .exit)) (now (room .exit))) (r .found) (r .count) ⌝ }
+    requires { let before = state (marks .objects) (now stuck) (now shares) (now room) in
+        ⌜ ReadyConstraint m e (now ends) (now head) (now next) before ⌝ }
+    ensures { λ r.
+        let before = state (marks .objects) (now (stuck .entry)) (now (shares .entry)) (now (room .entry)) in
+        let after = state (r .marks .objects) (now (stuck .exit)) (now (shares .exit)) (now (room .exit)) in
+        ⌜ FromConstraint m e (now (ends .entry)) before after (r .found) (r .count) ⌝ }
 {
     stuck[e] = 1;
     let mut one = from_object(m, 2 * e, marks, stuck, shares, room, ends, head, next);
@@ -126,15 +124,19 @@ fn from_object(
     head: &[u16; OBJECTS],
     next: &[u16; ENDS],
 ) -> Route
-    requires { ⌜ ReadyObject m i (now ends) (now head) (now next) (state (marks .objects) (now stuck) (now shares) (now room)) ⌝ }
-    ensures { λ r. ⌜ FromObject m i (now (ends .entry)) (state (marks .objects) (now (stuck .entry)) (now (shares .entry)) (now (room .entry))) (state (r .marks .objects) (now (stuck .exit)) (now (shares .exit)) (now (room .exit))) (r .found) (r .count) ⌝ }
+    requires { let before = state (marks .objects) (now stuck) (now shares) (now room) in
+        ⌜ ReadyObject m i (now ends) (now head) (now next) before ⌝ }
+    ensures { λ r.
+        let before = state (marks .objects) (now (stuck .entry)) (now (shares .entry)) (now (room .entry)) in
+        let after = state (r .marks .objects) (now (stuck .exit)) (now (shares .exit)) (now (room .exit)) in
+        ⌜ FromObject m i (now (ends .entry)) before after (r .found) (r .count) ⌝ }
 {
     let v = place_at(i, ends);
     if marks.objects[v] != 0 {
         return Route::new(false, 0, marks);
     }
     if room[v] != 0 {
-        give(i, v, shares, room);
+        use_room(i, v, shares, room);
         return Route::new(true, 0, marks);
     }
     marks.objects[v] = 1;

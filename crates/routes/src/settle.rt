@@ -1,7 +1,8 @@
 // Settling: each constraint gives what weight it has left along routes, or is stuck.
+use crate::number::one_byte;
+use crate::number::two_bytes;
 use crate::search::Marks;
 use crate::search::from_constraint;
-use crate::search::wide;
 use limits::CONSTRAINTS;
 use limits::ENDS;
 use limits::OBJECTS;
@@ -9,32 +10,25 @@ ghost use mathlib.Core.Path.{_≡_};
 ghost use Prim.Native.Nat.{_+_};
 ghost use Rattle.routes.specs.At.{at};
 ghost use Rattle.routes.specs.State.{state, bothShares};
-ghost use Rattle.routes.specs.Kept.{Settling, Settled, Placing, Placed, Asking, Waits};
-
-// A weight as a number to count with.
-pub fn number(x: u8) -> usize
-    ensures { λ r. ⌜ r ≡ x ⌝ }
-{
-    x as usize
-}
+ghost use Rattle.routes.specs.Settle.{Settling, Settled, HandingOut, HandedOut, WithinWeight, NeedsRoute};
 
 // What weight constraint e has left.
 pub fn left(e: usize, shares: &[u16; ENDS], takes: &[u8; CONSTRAINTS]) -> usize
-    requires { ⌜ Asking e (now takes) (now shares) ⌝ }
+    requires { ⌜ WithinWeight e (now takes) (now shares) ⌝ }
     ensures { λ r. ⌜ r + bothShares (now (shares .entry)) e ≡ at (now (takes .entry)) e ⌝ }
 {
-    number(takes[e]) - wide(shares[2 * e]) - wide(shares[2 * e + 1])
+    one_byte(takes[e]) - two_bytes(shares[2 * e]) - two_bytes(shares[2 * e + 1])
 }
 
 // Whether constraint e has weight left and is not marked.
-fn waits(
+fn needs_route(
     e: usize,
     stuck: &[u8; CONSTRAINTS],
     shares: &[u16; ENDS],
     takes: &[u8; CONSTRAINTS],
 ) -> bool
-    requires { ⌜ Asking e (now takes) (now shares) ⌝ }
-    ensures { λ r. ⌜ Waits e (now (takes .entry)) (now (stuck .entry)) (now (shares .entry)) r ⌝ }
+    requires { ⌜ WithinWeight e (now takes) (now shares) ⌝ }
+    ensures { λ r. ⌜ NeedsRoute e (now (takes .entry)) (now (stuck .entry)) (now (shares .entry)) r ⌝ }
 {
     if left(e, shares, takes) != 0 {
         return stuck[e] == 0;
@@ -42,9 +36,9 @@ fn waits(
     false
 }
 
-// Constraint e gives what weight it has left. The marks of a search that found a route are dropped; those of one that
+// Constraint e hands out what weight it has left. The marks of a search that found a route are dropped; those of one that
 // found none are kept for good.
-fn place(
+fn hand_out(
     m: usize,
     e: usize,
     marks: Marks,
@@ -56,8 +50,12 @@ fn place(
     head: &[u16; OBJECTS],
     next: &[u16; ENDS],
 ) -> Marks
-    requires { ⌜ Placing m e (now ends) (now head) (now next) (now takes) (state (marks .objects) (now stuck) (now shares) (now room)) ⌝ }
-    ensures { λ r. ⌜ Placed m e (now (ends .entry)) (now (takes .entry)) (state (marks .objects) (now (stuck .entry)) (now (shares .entry)) (now (room .entry))) (state (r .objects) (now (stuck .exit)) (now (shares .exit)) (now (room .exit))) ⌝ }
+    requires { let before = state (marks .objects) (now stuck) (now shares) (now room) in
+        ⌜ HandingOut m e (now ends) (now head) (now next) (now takes) before ⌝ }
+    ensures { λ r.
+        let before = state (marks .objects) (now (stuck .entry)) (now (shares .entry)) (now (room .entry)) in
+        let after = state (r .objects) (now (stuck .exit)) (now (shares .exit)) (now (room .exit)) in
+        ⌜ HandedOut m e (now (ends .entry)) (now (takes .entry)) before after ⌝ }
 {
     while left(e, shares, takes) != 0 {
         let mut trial = *stuck;
@@ -83,16 +81,20 @@ pub fn settle(
     head: &[u16; OBJECTS],
     next: &[u16; ENDS],
 ) -> Marks
-    requires { ⌜ Settling m (now ends) (now head) (now next) (now takes) (state (marks .objects) (now stuck) (now shares) (now room)) ⌝ }
-    ensures { λ r. ⌜ Settled m (now (ends .entry)) (now (takes .entry)) (state (marks .objects) (now (stuck .entry)) (now (shares .entry)) (now (room .entry))) (state (r .objects) (now (stuck .exit)) (now (shares .exit)) (now (room .exit))) ⌝ }
+    requires { let before = state (marks .objects) (now stuck) (now shares) (now room) in
+        ⌜ Settling m (now ends) (now head) (now next) (now takes) before ⌝ }
+    ensures { λ r.
+        let before = state (marks .objects) (now (stuck .entry)) (now (shares .entry)) (now (room .entry)) in
+        let after = state (r .objects) (now (stuck .exit)) (now (shares .exit)) (now (room .exit)) in
+        ⌜ Settled m (now (ends .entry)) (now (takes .entry)) before after ⌝ }
 {
     let mut reached = marks;
     let mut after: usize = 0;
     while after < m {
         let e = after;
         after += 1;
-        if waits(e, stuck, shares, takes) {
-            reached = place(m, e, reached, stuck, shares, room, takes, ends, head, next);
+        if needs_route(e, stuck, shares, takes) {
+            reached = hand_out(m, e, reached, stuck, shares, room, takes, ends, head, next);
         }
     }
     reached

@@ -1,5 +1,5 @@
 -- `weigh` meets its contract: the weights by the arrays are those of the drawing in them. Assumes nothing.
-use Rattle.drawing.proofs.Weighing.{weighed}
+use Rattle.drawing.proofs.WeightsIn.{weights-in}
 use borrow.Author.Needs.{needs}
 use Rattle.drawing.proofs.weigh.Statement.{statement}
 use Rattle.drawing.proofs.weigh.Tie as tie
@@ -17,7 +17,7 @@ weigh-constraints-requires : tie.Need-weigh-constraints-requires
 weigh-constraints-requires c κs = search needs
 
 returns : tie.Need-returns
-returns c = weighed _ _ _ (c .before .before .before .before .before .before .before .before .before .before .before .before .before .before .before .before .before .pre) _ _ (c .before .before .before .before .before .before .weigh-objects .ensures) (c .weigh-constraints .ensures)
+returns c = weights-in _ _ _ (search) _ _ (c .before .before .before .before .before .before .weigh-objects .ensures) (c .weigh-constraints .ensures)
 
 pub weigh-spec : {M : Type 1} → statement M
 weigh-spec =

@@ -1,11 +1,10 @@
 -- `report` meets its contract. Assumes nothing.
-use Rattle.counter.proofs.Ready.{countable}
 use borrow.Author.Needs.{needs}
 use Rattle.report.proofs.report.Statement.{statement}
 use Rattle.report.proofs.report.Tie as tie
 
-read-requires : tie.Need-read-requires
-read-requires c κs = search needs
+net-of-requires : tie.Need-net-of-requires
+net-of-requires c κs = search needs
 
 slice-aggregate-say : tie.Need-slice-aggregate-say
 slice-aggregate-say c = search needs
@@ -52,11 +51,11 @@ slice-aggregate-say-5 c = search needs
 say-requires-5 : tie.Need-say-requires-5
 say-requires-5 c κs = search needs
 
-weigh-requires : tie.Need-weigh-requires
-weigh-requires c κs = search needs
-
 say-lines-requires : tie.Need-say-lines-requires
-say-lines-requires c κs = countable (c .before .before .before .before .before .before .before .before .before .before .before .before .before .before .before .before .before .read .ensures) (c .before .before .before .before .before .before .before .before .before .before .before .before .before .before .before .if1 .left) (c .before .before .before .before .before .before .weigh .ensures)
+say-lines-requires c κs =
+    let net-of = c .before .before .before .before .before .before .before .before .before .before .net-of in
+    let if1 = c .before .before .before .before .before .before .before .before .if1 in
+    (net-of .ensures .countable) (if1 .left)
 
 say-last-requires : tie.Need-say-last-requires
 say-last-requires c κs = search needs
@@ -68,7 +67,7 @@ pub report-spec : {M : Type 1} → statement M
 report-spec =
     tie.close
     (tie.spec
-    read-requires
+    net-of-requires
     slice-aggregate-say
     say-requires
     cast-say-number
@@ -84,7 +83,6 @@ report-spec =
     say-number-requires-3
     slice-aggregate-say-5
     say-requires-5
-    weigh-requires
     say-lines-requires
     say-last-requires
     returns-2)

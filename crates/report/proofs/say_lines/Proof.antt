@@ -1,28 +1,36 @@
 -- `say_lines` meets its contract. Assumes nothing.
 use Prim.Native.Nat.{_-_, _≤_}
 use native.Mathlib.Omega.{arith}
-use borrow.Author.Needs.{needs}
 use lib.Dec.{lit<}
+use borrow.Author.Needs.{needs}
 use Rattle.report.proofs.say_lines.Statement.{statement}
 use Rattle.report.proofs.say_lines.Tie as tie
 
 abbrev Inv-loop : tie.InvT-loop
-Inv-loop n m ends weights takes from lowest₀ c₀ t12 t13 lowest c = c ≤ m
+Inv-loop n m ends weights takes from lowest₀ c₀ t13 t14 lowest c = c ≤ m
 
 abbrev μ-loop : tie.MeasureT-loop
-μ-loop n m ends weights takes from lowest₀ c₀ t12 t13 lowest c = m - c
+μ-loop n m ends weights takes from lowest₀ c₀ t13 t14 lowest c = m - c
 
 base-requires : tie.Need-base-requires Inv-loop μ-loop
-base-requires c κs = c .pre .fair
+base-requires c κs =
+    let pre = c .before .before .before .before .before .before .pre in
+    (pre .fair)
 
 loop-holds : tie.Need-loop-holds Inv-loop μ-loop
 loop-holds c = omega arith
 
 answer-requires : tie.Need-answer-requires Inv-loop μ-loop
-answer-requires c κs = record { fair = c .before .before .before .pre .fair; is = c .loop-test .taken; some = c .before .before .before .pre .heavy (c .before .loop .c) (c .loop-test .taken); spread = c .before .before .base .ensures }
+answer-requires c κs =
+    let pre = c .before .before .before .before .before .before .before .before .before .before .before .before .pre in
+    let loop-test = c .before .before .before .loop-test in
+    let loop = c .before .before .before .before .loop in
+    let base = c .before .before .before .before .before .base in
+    record { fair = (pre .fair); is = (loop-test .taken); some = (pre .heavy) (loop .c) (loop-test .taken); spread = (base .ensures) }
 
 is-above-requires : tie.Need-is-above-requires Inv-loop μ-loop
-is-above-requires c κs = (omega (arith, c .before .answer .ensures .above-small), omega (arith, c .before .answer .ensures .below-small), lit< tt)
+is-above-requires c κs =
+    (omega (arith, (c .before .answer .ensures .above-small)), omega (arith, (c .before .answer .ensures .below-small)), lit< tt)
 
 say-number-requires : tie.Need-say-number-requires Inv-loop μ-loop
 say-number-requires c κs = search needs
@@ -37,7 +45,9 @@ say-density-requires : tie.Need-say-density-requires Inv-loop μ-loop
 say-density-requires c κs = search needs
 
 say-members-requires : tie.Need-say-members-requires Inv-loop μ-loop
-say-members-requires c κs = c .before .before .before .before .before .before .before .before .before .before .before .before .pre .fair .few-objects
+say-members-requires c κs =
+    let pre = c .before .before .before .before .before .before .before .before .before .before .before .before .before .before .before .before .before .before .before .before .before .pre in
+    (pre .fair .few-objects)
 
 slice-aggregate-say-2 : tie.Need-slice-aggregate-say-2 Inv-loop μ-loop
 slice-aggregate-say-2 c = search needs
@@ -46,13 +56,19 @@ say-requires-2 : tie.Need-say-requires-2 Inv-loop μ-loop
 say-requires-2 c κs = search needs
 
 add-c : tie.Need-add-c Inv-loop μ-loop
-add-c c = omega (arith, c .before .before .before .before .before .before .before .before .before .before .before .before .loop-test .taken)
+add-c c =
+    let loop-test = c .before .before .before .before .before .before .before .before .before .before .before .before .before .before .before .loop-test in
+    omega (arith, (loop-test .taken))
 
 loop-less : tie.Need-loop-less Inv-loop μ-loop
-loop-less c = omega (arith, c .before .before .before .before .before .before .before .before .before .before .before .before .loop-test .taken)
+loop-less c =
+    let loop-test = c .before .before .before .before .before .before .before .before .before .before .before .before .before .before .before .loop-test in
+    omega (arith, (loop-test .taken))
 
 loop-again : tie.Need-loop-again Inv-loop μ-loop
-loop-again c = omega (arith, c .before .before .before .before .before .before .before .before .before .before .before .before .loop-test .taken)
+loop-again c =
+    let loop-test = c .before .before .before .before .before .before .before .before .before .before .before .before .before .before .before .loop-test in
+    omega (arith, (loop-test .taken))
 
 returns : tie.Need-returns Inv-loop μ-loop
 returns c = search needs

@@ -7,11 +7,11 @@ use borrow.Author.Needs.{needs}
 use lib.Dec.{lit≤}
 use lib.ListN.{length, set, length-set}
 use Rattle.limits.specs.Limits.{mostObjects}
-use Rattle.drawing.specs.Arrays.{tabulated}
+use Rattle.drawing.specs.Tabulated.{tabulated}
 use Rattle.routes.specs.Arrays.{members}
 use Rattle.counter.specs.Outcome.{over}
 use Rattle.counter.specs.Block.{setSize, setByte, setBytes}
-use Rattle.counter.proofs.Putting.{listed-over}
+use Rattle.counter.proofs.block.Writing.{tabulated-over}
 use Rattle.counter.proofs.block.put_set.Statement.{statement}
 use Rattle.counter.proofs.block.put_set.Tie as tie
 
@@ -38,12 +38,14 @@ loop-less : tie.Need-loop-less Inv-loop μ-loop
 loop-less c = omega arith
 
 loop-again : tie.Need-loop-again Inv-loop μ-loop
-loop-again c = (
-  ap₂ (λ (l : List ℕ) (x : ℕ). set l (c .before .before .loop .j) x) (c .before .before .loop .inv .0) (c .set-byte .ensures)
-      ∙ listed-over (setByte mostObjects (members (c .before .before .before .before .args .marks .now))) (c .before .before .loop .j) (c .before .before .before .before .args .part .now) (omega arith),
-  simp length-set (c .before .before .loop .inv .1),
-  omega arith,
-)
+loop-again c =
+    let loop = c .before .before .loop in
+    let args = c .before .before .before .before .args in (
+      ap₂ (λ (l : List ℕ) (x : ℕ). set l (loop .j) x) (loop .inv .0) (c .set-byte .ensures)
+          ∙ tabulated-over (setByte mostObjects (members (args .marks .now))) (loop .j) (args .part .now) (omega arith),
+      simp length-set (loop .inv .1),
+      omega arith,
+    )
 
 same-length : tie.Need-same-length Inv-loop μ-loop
 same-length c = search needs

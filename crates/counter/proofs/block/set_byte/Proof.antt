@@ -2,7 +2,7 @@
 use native.Mathlib.Omega.{arith}
 use Rattle.routes.specs.Arrays.{members}
 use Rattle.counter.specs.Block.{}
-use Rattle.counter.proofs.Putting.{byte-is}
+use Rattle.counter.proofs.block.Writing.{byte-is}
 use borrow.Author.Needs.{needs}
 use Rattle.counter.proofs.block.set_byte.Statement.{statement}
 use Rattle.counter.proofs.block.set_byte.Tie as tie
@@ -77,7 +77,9 @@ add-result-4 : tie.Need-add-result-4
 add-result-4 c = search needs
 
 returns : tie.Need-returns
-returns c = omega (arith, byte-is (members (c .before .before .before .before .before .before .before .before .args .marks .now)) (c .before .before .before .before .before .before .before .before .args .j) (c .before .before .before .before .before .before .before .before .pre))
+returns c =
+    let start = c .before .before .before .before .before .before .before .before in
+    omega (arith, byte-is (members (start .args .marks .now)) (start .args .j) (start .pre))
 
 pub set-byte-spec : {M : Type 1} → statement M
 set-byte-spec =

@@ -1,5 +1,5 @@
 -- `two_complement` meets its contract. Assumes nothing.
-use Rattle.counter.proofs.Putting.{complement-is}
+use Rattle.counter.proofs.block.Writing.{complement-is}
 use borrow.Author.Needs.{needs}
 use Rattle.counter.proofs.block.two_complement.Statement.{statement}
 use Rattle.counter.proofs.block.two_complement.Tie as tie

@@ -1,4 +1,4 @@
--- `one` meets its contract. Assumes nothing.
+-- `counter::count::one` meets its contract. Assumes nothing.
 use borrow.Author.Needs.{needs}
 use Rattle.counter.proofs.count.one.Statement.{statement}
 use Rattle.counter.proofs.count.one.Tie as tie
@@ -8,11 +8,14 @@ nothing-requires c κs = search needs
 
 answer-requires : tie.Need-answer-requires
 answer-requires c κs =
+    let pre = c .before .before .before .before .before .before .before .before .before .before .pre in
+    let args = c .before .before .before .before .before .before .before .before .before .before .args in
+    let nothing = c .before .before .before .nothing in
     record {
-      fair = c .before .pre .countable .fair;
-      is = c .before .pre .is;
-      some = c .before .pre .countable .heavy (c .before .args .c) (c .before .pre .is);
-      spread = c .nothing .ensures;
+      fair = (pre .countable .fair);
+      is = (pre .is);
+      some = (pre .countable .heavy) (args .c) (pre .is);
+      spread = (nothing .ensures);
     }
 
 returns : tie.Need-returns

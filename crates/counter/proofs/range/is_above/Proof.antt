@@ -1,6 +1,6 @@
 -- `counter::range::is_above` meets its contract. Assumes nothing.
 use borrow.Author.Needs.{needs}
-use Rattle.counter.proofs.Asking.{above-is}
+use Rattle.counter.proofs.SignedK.{above-is}
 use Rattle.counter.proofs.range.is_above.Statement.{statement}
 use Rattle.counter.proofs.range.is_above.Tie as tie
 

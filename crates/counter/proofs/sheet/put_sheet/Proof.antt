@@ -1,18 +1,20 @@
 -- `counter::sheet::put_sheet` meets its contract. The invariant: the shares below i are written. Assumes nothing.
 use Prim.Native.Nat.{_*_, _-_, _≤_}
 use native.Mathlib.Omega.{arith}
-use Rattle.counter.proofs.Sheets.{SharesWritten, none-written, one-written, all-written}
+use Rattle.counter.proofs.sheet.Writing.{SharesWritten, none-written, one-written, all-written}
 use Rattle.counter.proofs.sheet.put_sheet.Statement.{statement}
 use Rattle.counter.proofs.sheet.put_sheet.Tie as tie
 
 abbrev Inv-loop : tie.InvT-loop
-Inv-loop m shares buffer₀ i₀ buffer i = SharesWritten i shares buffer₀ buffer × (i ≤ 2 * m)
+Inv-loop m buffer₀ shares i₀ buffer i = SharesWritten i shares buffer₀ buffer × (i ≤ 2 * m)
 
 abbrev μ-loop : tie.MeasureT-loop
-μ-loop m shares buffer₀ i₀ buffer i = 2 * m - i
+μ-loop m buffer₀ shares i₀ buffer i = 2 * m - i
 
 loop-holds : tie.Need-loop-holds Inv-loop μ-loop
-loop-holds c = (none-written (c .before .args .shares .now) (c .before .args .buffer .now), omega arith)
+loop-holds c =
+    let args = c .before .before .args in
+    (none-written (args .solution .shares) (args .buffer .now), omega arith)
 
 mul-loop : tie.Need-mul-loop Inv-loop μ-loop
 mul-loop c = omega arith
@@ -20,17 +22,17 @@ mul-loop c = omega arith
 mul-put-two : tie.Need-mul-put-two Inv-loop μ-loop
 mul-put-two c = omega arith
 
-mul-wide : tie.Need-mul-wide Inv-loop μ-loop
-mul-wide c = omega arith
+mul-two-bytes : tie.Need-mul-two-bytes Inv-loop μ-loop
+mul-two-bytes c = omega arith
 
-element-copy-out-wide : tie.Need-element-copy-out-wide Inv-loop μ-loop
-element-copy-out-wide c = omega arith
+array-read-two-bytes : tie.Need-array-read-two-bytes Inv-loop μ-loop
+array-read-two-bytes c = omega arith
 
-wide-requires : tie.Need-wide-requires Inv-loop μ-loop
-wide-requires c κs = tt
+two-bytes-requires : tie.Need-two-bytes-requires Inv-loop μ-loop
+two-bytes-requires c κs = tt
 
 put-two-requires : tie.Need-put-two-requires Inv-loop μ-loop
-put-two-requires c κs = (omega arith, c .wide .ensures .1)
+put-two-requires c κs = (omega arith, (c .two-bytes .ensures .1))
 
 add-i : tie.Need-add-i Inv-loop μ-loop
 add-i c = omega arith
@@ -39,17 +41,20 @@ loop-less : tie.Need-loop-less Inv-loop μ-loop
 loop-less c = omega arith
 
 loop-again : tie.Need-loop-again Inv-loop μ-loop
-loop-again c = (
-  one-written (c .before .before .before .before .before .before .before .loop .inv .0) (omega arith) (c .before .before .before .wide .ensures .0) (c .before .before .before .wide .ensures .1) (c .before .before .put-two .ensures),
-  omega arith,
-)
+loop-again c =
+    let loop = c .before .before .before .before .before .before .loop in
+    let two-bytes = c .before .before .before .two-bytes in
+    let put-two = c .before .before .put-two in
+    (one-written ((loop .inv .0)) (omega arith) (two-bytes .ensures .0) (two-bytes .ensures .1) (put-two .ensures), omega arith)
 
 same-length : tie.Need-same-length Inv-loop μ-loop
-same-length c = c .before .loop .inv .0 .long
+same-length c = (c .before .loop .inv .0 .long)
 
 returns : tie.Need-returns Inv-loop μ-loop
 returns c =
-    all-written (c .before .loop .inv .0) (omega arith)
+    let args = c .before .before .before .before .args in
+    let pre = c .before .before .before .before .pre in
+    all-written (args .m) (c .before .loop .inv .0) (omega arith) (pre .1)
 
 pub put-sheet-spec : {M : Type 1} → statement M
 put-sheet-spec =
@@ -60,9 +65,9 @@ put-sheet-spec =
     loop-holds
     mul-loop
     mul-put-two
-    mul-wide
-    element-copy-out-wide
-    wide-requires
+    mul-two-bytes
+    array-read-two-bytes
+    two-bytes-requires
     put-two-requires
     add-i
     loop-less

@@ -1,47 +1,47 @@
 -- `fault::constraint_fault` meets its contract: the tests that led to a return say which line of the definition holds. Assumes nothing.
 use Rattle.drawing.specs.Choice.{pick}
 use Rattle.drawing.specs.Fault.{constraintFault}
-use borrow.Author.Tests.{le-leb, lt-leb, eq-eqb, ne-eqb, lt-ltb, le-ltb}
+use Rattle.drawing.proofs.Choice.{tests}
 use borrow.Author.Needs.{needs}
 use Rattle.drawing.proofs.fault.constraint_fault.Statement.{statement}
 use Rattle.drawing.proofs.fault.constraint_fault.Tie as tie
 
 returns : tie.Need-returns
 unfolding constraintFault pick
-returns c = simp (le-leb _ _ (c .if1 .taken))
+returns c = search tests
 
 cast-if2 : tie.Need-cast-if2
 cast-if2 c = search needs
 
 returns-2 : tie.Need-returns-2
 unfolding constraintFault pick
-returns-2 c = simp (lt-leb _ _ (c .before .before .if1 .left), le-leb _ _ (c .if2 .taken))
+returns-2 c = search tests
 
 cast-if3 : tie.Need-cast-if3
 cast-if3 c = search needs
 
 returns-3 : tie.Need-returns-3
 unfolding constraintFault pick
-returns-3 c = simp (lt-leb _ _ (c .before .before .before .before .if1 .left), lt-leb _ _ (c .before .before .if2 .left), le-leb _ _ (c .if3 .taken))
+returns-3 c = search tests
 
 returns-4 : tie.Need-returns-4
 unfolding constraintFault pick
-returns-4 c = simp (lt-leb _ _ (c .before .before .before .before .before .before .if1 .left), lt-leb _ _ (c .before .before .before .before .if2 .left), lt-leb _ _ (c .before .before .if3 .left), eq-eqb _ _ (c .if4 .taken))
+returns-4 c = search tests
 
 table-weight-requires : tie.Need-table-weight-requires
 table-weight-requires c κs = search needs
 
 returns-5 : tie.Need-returns-5
 unfolding constraintFault pick
-returns-5 c = simp (lt-leb _ _ (c .before .before .before .before .before .before .before .before .if1 .left), lt-leb _ _ (c .before .before .before .before .before .before .if2 .left), lt-leb _ _ (c .before .before .before .before .if3 .left), ne-eqb _ _ (c .before .before .if4 .left), ← c .before .table-weight .ensures, eq-eqb _ _ (c .if5 .taken))
+returns-5 c = search (tests, ← c .before .table-weight .ensures)
 
 returns-6 : tie.Need-returns-6
 unfolding constraintFault pick
-returns-6 c = simp (lt-leb _ _ (c .before .before .before .before .before .before .before .before .before .before .if1 .left), lt-leb _ _ (c .before .before .before .before .before .before .before .before .if2 .left), lt-leb _ _ (c .before .before .before .before .before .before .if3 .left), ne-eqb _ _ (c .before .before .before .before .if4 .left), ← c .before .before .before .table-weight .ensures, ne-eqb _ _ (c .before .before .if5 .left), lt-ltb _ _ (c .if6 .taken))
+returns-6 c = search (tests, ← c .before .before .before .table-weight .ensures)
 
 returns-7 : tie.Need-returns-7
 unfolding constraintFault pick
-returns-7 c = simp (lt-leb _ _ (c .before .before .before .before .before .before .before .before .before .before .if1 .left), lt-leb _ _ (c .before .before .before .before .before .before .before .before .if2 .left), lt-leb _ _ (c .before .before .before .before .before .before .if3 .left), ne-eqb _ _ (c .before .before .before .before .if4 .left), ← c .before .before .before .table-weight .ensures, ne-eqb _ _ (c .before .before .if5 .left), le-ltb _ _ (c .if6 .left))
+returns-7 c = search (tests, ← c .before .before .before .table-weight .ensures)
 
 pub constraint-fault-spec : {M : Type 1} → statement M
 constraint-fault-spec =

@@ -1,33 +1,33 @@
 -- `fault::object_fault` meets its contract: the tests that led to a return say which line of the definition holds. Assumes nothing.
 use Rattle.drawing.specs.Choice.{pick}
 use Rattle.drawing.specs.Fault.{objectFault}
-use borrow.Author.Tests.{lt-ltb, le-ltb, le-leb, lt-leb}
+use Rattle.drawing.proofs.Choice.{tests}
 use borrow.Author.Needs.{needs}
 use Rattle.drawing.proofs.fault.object_fault.Statement.{statement}
 use Rattle.drawing.proofs.fault.object_fault.Tie as tie
 
 returns : tie.Need-returns
 unfolding objectFault pick
-returns c = simp (lt-ltb _ _ (c .if1 .taken))
+returns c = search tests
 
 returns-2 : tie.Need-returns-2
 unfolding objectFault pick
-returns-2 c = simp (le-ltb _ _ (c .before .if1 .left), le-leb _ _ (c .if2 .taken))
+returns-2 c = search tests
 
 object-kind-requires : tie.Need-object-kind-requires
 object-kind-requires c κs = search needs
 
 returns-3 : tie.Need-returns-3
 unfolding objectFault pick
-returns-3 c = simp (le-ltb _ _ (c .before .before .before .if1 .left), lt-leb _ _ (c .before .before .if2 .left), ← c .before .object-kind .ensures, c .if3 .taken)
+returns-3 c = search (tests, ← c .before .object-kind .ensures, c .if3 .taken)
 
 returns-4 : tie.Need-returns-4
 unfolding objectFault pick
-returns-4 c = simp (le-ltb _ _ (c .before .before .before .before .before .if1 .left), lt-leb _ _ (c .before .before .before .before .if2 .left), ← c .before .before .before .object-kind .ensures, c .before .before .if3 .left, lt-ltb _ _ (c .if4 .taken))
+returns-4 c = search (tests, ← c .before .before .before .object-kind .ensures, c .before .before .if3 .left)
 
 returns-5 : tie.Need-returns-5
 unfolding objectFault pick
-returns-5 c = simp (le-ltb _ _ (c .before .before .before .before .before .if1 .left), lt-leb _ _ (c .before .before .before .before .if2 .left), ← c .before .before .before .object-kind .ensures, c .before .before .if3 .left, le-ltb _ _ (c .if4 .left))
+returns-5 c = search (tests, ← c .before .before .before .object-kind .ensures, c .before .before .if3 .left)
 
 pub object-fault-spec : {M : Type 1} → statement M
 object-fault-spec =

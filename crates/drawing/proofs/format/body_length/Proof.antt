@@ -1,7 +1,7 @@
 -- `format::body_length` meets its contract: the tests that led to a return say which line of the definition holds. Assumes nothing.
 use Rattle.drawing.specs.Choice.{pick}
 use Rattle.drawing.specs.Format.{bodyLength}
-use Rattle.drawing.proofs.Tests.{tests}
+use Rattle.drawing.proofs.Choice.{tests}
 use Rattle.drawing.proofs.format.body_length.Statement.{statement}
 use Rattle.drawing.proofs.format.body_length.Tie as tie
 

@@ -1,7 +1,7 @@
 -- `format::head_fault` meets its contract: the tests that led to a return say which line of the definition holds. Assumes nothing.
 use Rattle.drawing.specs.Choice.{pick}
 use Rattle.drawing.specs.Format.{headFault}
-use borrow.Author.Tests.{lt-ltb, le-ltb, eq-eqb, ne-eqb}
+use Rattle.drawing.proofs.Choice.{tests}
 use borrow.Author.Needs.{needs}
 use Rattle.drawing.proofs.format.head_fault.Statement.{statement}
 use Rattle.drawing.proofs.format.head_fault.Tie as tie
@@ -11,7 +11,7 @@ add-if1 c = search needs
 
 returns : tie.Need-returns
 unfolding headFault pick
-returns c = simp (lt-ltb _ _ (c .if1 .taken))
+returns c = search tests
 
 add-two-at : tie.Need-add-two-at
 add-two-at c = search needs
@@ -21,7 +21,7 @@ two-at-requires c κs = search needs
 
 returns-2 : tie.Need-returns-2
 unfolding headFault pick
-returns-2 c = simp (le-ltb _ _ (c .before .before .if1 .left), ← c .before .two-at .ensures, c .if2 .taken)
+returns-2 c = search (tests, ← c .before .two-at .ensures, c .if2 .taken)
 
 body-length-requires : tie.Need-body-length-requires
 body-length-requires c κs = search needs
@@ -34,7 +34,14 @@ cast-if3 c = search needs
 
 returns-3 : tie.Need-returns-3
 unfolding headFault pick
-returns-3 c = simp (le-ltb _ _ (c .before .before .before .before .before .if1 .left), ← c .before .before .before .before .two-at .ensures, c .before .before .before .if2 .left, ← c .before .two-at2 .ensures, ← c .before .before .body-length .ensures, ne-eqb _ _ (c .if3 .taken))
+returns-3 c =
+    search (
+      tests,
+      ← c .before .before .before .before .two-at .ensures,
+      c .before .before .before .if2 .left,
+      ← c .before .two-at2 .ensures,
+      ← c .before .before .body-length .ensures,
+    )
 
 add-if4 : tie.Need-add-if4
 add-if4 c = search needs
@@ -44,11 +51,25 @@ add-if4-2 c = search needs
 
 returns-4 : tie.Need-returns-4
 unfolding headFault pick
-returns-4 c = simp (le-ltb _ _ (c .before .before .before .before .before .before .if1 .left), ← c .before .before .before .before .before .two-at .ensures, c .before .before .before .before .if2 .left, ← c .before .before .two-at2 .ensures, ← c .before .before .before .body-length .ensures, eq-eqb _ _ (c .before .if3 .left), lt-ltb _ _ (c .if4 .taken))
+returns-4 c =
+    search (
+      tests,
+      ← c .before .before .before .before .before .two-at .ensures,
+      c .before .before .before .before .if2 .left,
+      ← c .before .before .two-at2 .ensures,
+      ← c .before .before .before .body-length .ensures,
+    )
 
 returns-5 : tie.Need-returns-5
 unfolding headFault pick
-returns-5 c = simp (le-ltb _ _ (c .before .before .before .before .before .before .if1 .left), ← c .before .before .before .before .before .two-at .ensures, c .before .before .before .before .if2 .left, ← c .before .before .two-at2 .ensures, ← c .before .before .before .body-length .ensures, eq-eqb _ _ (c .before .if3 .left), le-ltb _ _ (c .if4 .left))
+returns-5 c =
+    search (
+      tests,
+      ← c .before .before .before .before .before .two-at .ensures,
+      c .before .before .before .before .if2 .left,
+      ← c .before .before .two-at2 .ensures,
+      ← c .before .before .before .body-length .ensures,
+    )
 
 pub head-fault-spec : {M : Type 1} → statement M
 head-fault-spec =

@@ -1,12 +1,11 @@
 -- `format::record_at` meets its contract. A head with no fault says that the body is there, so each body is read within the bytes. Assumes nothing.
 use Rattle.drawing.specs.Choice.{pick}
-use Rattle.drawing.specs.Format.{recordAt, bodyLength}
-use Rattle.drawing.proofs.Tests.{tests}
+use Rattle.drawing.specs.Format.{anObject, aConstraint, bodyLength, recordAt}
+use Rattle.drawing.proofs.Choice.{tests}
 use borrow.Author.Needs.{needs}
 use native.Mathlib.Omega.{arith}
 use mathlib.Core.Path.{sym, _∙_}
-use denote.Ref.{now}
-use Rattle.drawing.proofs.Heads.{whole, body-there}
+use Rattle.drawing.proofs.RecordAt.{whole, body-there}
 use Rattle.drawing.proofs.format.record_at.Statement.{statement}
 use Rattle.drawing.proofs.format.record_at.Tie as tie
 
@@ -21,7 +20,7 @@ add-two-at : tie.Need-add-two-at
 add-two-at c = search needs
 
 two-at-requires : tie.Need-two-at-requires
-two-at-requires c κs = omega (arith, whole (now (c .before .before .before .args .s)) (c .before .before .before .args .at) (sym (c .before .head-fault .ensures) ∙ c .if1 .left))
+two-at-requires c κs = omega (arith, whole _ _ (sym (c .before .head-fault .ensures) ∙ c .if1 .left))
 
 add-object-body : tie.Need-add-object-body
 add-object-body c = search needs
@@ -29,7 +28,7 @@ add-object-body c = search needs
 object-body-requires : tie.Need-object-body-requires
 unfolding bodyLength pick
 object-body-requires c κs =
-    omega (arith, body-there (now (c .before .before .before .before .before .args .s)) (c .before .before .before .before .before .args .at) 1 (sym (c .before .before .before .head-fault .ensures) ∙ c .before .before .if1 .left) (sym (c .before .two-at .ensures) ∙ c .if2 .taken))
+    omega (arith, body-there _ _ anObject (sym (c .before .before .before .head-fault .ensures) ∙ c .before .before .if1 .left) (sym (c .before .two-at .ensures) ∙ c .if2 .taken))
 
 returns-2 : tie.Need-returns-2
 unfolding recordAt pick
@@ -41,7 +40,7 @@ add-constraint-body c = search needs
 constraint-body-requires : tie.Need-constraint-body-requires
 unfolding bodyLength pick
 constraint-body-requires c κs =
-    omega (arith, body-there (now (c .before .before .before .before .before .before .args .s)) (c .before .before .before .before .before .before .args .at) 2 (sym (c .before .before .before .before .head-fault .ensures) ∙ c .before .before .before .if1 .left) (sym (c .before .before .two-at .ensures) ∙ c .if3 .taken))
+    omega (arith, body-there _ _ aConstraint (sym (c .before .before .before .before .head-fault .ensures) ∙ c .before .before .before .if1 .left) (sym (c .before .before .two-at .ensures) ∙ c .if3 .taken))
 
 returns-3 : tie.Need-returns-3
 unfolding recordAt pick

@@ -1,7 +1,7 @@
 -- `reader::behind` meets its contract: each arm is a side of the definition's choice. Assumes nothing.
 use Rattle.drawing.specs.Choice.{pick}
 use Rattle.drawing.specs.Read.{behindFault}
-use Rattle.drawing.proofs.Tests.{tests}
+use Rattle.drawing.proofs.Choice.{tests}
 use Rattle.drawing.proofs.reader.behind.Statement.{statement}
 use Rattle.drawing.proofs.reader.behind.Tie as tie
 

@@ -1,15 +1,14 @@
 -- `reader::fill` meets its contract. The invariant is `Stands`: what reading the bytes gives is what reading on from here gives,
--- after the entries in the arrays. Each arm is a law of `Turn` or `Taken`. The measure is what is left of the bytes. Assumes nothing.
-use Prim.Native.Nat.{ℕ, _-_}
-use mathlib.Core.Path.{sym, ap, ap₂, _∙_}
+-- after the entries in the arrays. Each arm is a law of `Turn` or `Stored`. The measure is what is left of the bytes. Assumes nothing.
+use Prim.Native.Nat.{_-_}
+use mathlib.Core.Path.{sym, ap, _∙_}
 use Rattle.drawing.specs.Found.{meant}
-use Rattle.drawing.specs.Fault.{constraintFault}
 use native.Mathlib.Omega.{arith}
 use borrow.Author.Needs.{needs}
 use lib.ListN.{length}
-use Rattle.drawing.proofs.Turn.{Stands, starts, refuses-record, refuses-object, refuses-constraint, at-end, as-ended}
+use Rattle.drawing.proofs.reader.Turn.{Stands, starts, refuses-record, refuses-object, refuses-constraint, at-end, as-ended}
 use Rattle.drawing.proofs.Faults.{object-sound, constraint-sound}
-use Rattle.drawing.proofs.Taken.{takes-object, takes-constraint}
+use Rattle.drawing.proofs.reader.Stored.{behind-object, behind-constraint}
 use Rattle.drawing.proofs.reader.fill.Statement.{statement}
 use Rattle.drawing.proofs.reader.fill.Tie as tie
 
@@ -61,7 +60,8 @@ returns-2 c =
     let read = c .before .before .before .before .before .before in
     let seen = c .before .before .before .before in
     as-ended _ _ _ _ _ _ (c .ended2 .ensures)
-    (refuses-object _ _ _ _ _ stands _ (sym (ap meant (seen .o .given .1)) ∙ read .record-at .ensures) _ (c .before .before .object-fault .ensures) (c .before .if1 .taken))
+    (refuses-object _ _ _ _ _ stands _ (sym (ap meant (seen .o .given .1)) ∙ read .record-at .ensures)
+    _ (c .before .before .object-fault .ensures) (c .before .if1 .taken))
 
 element-write-object-kinds : tie.Need-element-write-object-kinds Inv-loop μ-loop
 element-write-object-kinds c = omega (arith, object-sound _ _ _ (sym (c .before .object-fault .ensures) ∙ c .if1 .left))
@@ -75,19 +75,16 @@ add-n c = search needs
 add-at : tie.Need-add-at Inv-loop μ-loop
 add-at c = search needs
 
-loop-less : tie.Need-loop-less Inv-loop μ-loop
-loop-less c =
-    let stands = c .before .before .before .before .before .before .loop .inv in
-    let read = c .before .before .before .before .before in
-    let seen = c .before .before .before in
-    omega (arith, takes-object _ _ _ _ _ stands _ (sym (ap meant (seen .o .given .1)) ∙ read .record-at .ensures) (sym (c .before .object-fault .ensures) ∙ c .if1 .left))
-
 loop-again : tie.Need-loop-again Inv-loop μ-loop
 loop-again c =
     let stands = c .before .before .before .before .before .before .loop .inv in
     let read = c .before .before .before .before .before in
     let seen = c .before .before .before in
-    takes-object _ _ _ _ _ stands _ (sym (ap meant (seen .o .given .1)) ∙ read .record-at .ensures) (sym (c .before .object-fault .ensures) ∙ c .if1 .left)
+    behind-object _ _ _ _ _ stands _ (sym (ap meant (seen .o .given .1)) ∙ read .record-at .ensures)
+    _ (c .before .object-fault .ensures) (c .if1 .left)
+
+loop-less : tie.Need-loop-less Inv-loop μ-loop
+loop-less c = omega (arith, loop-again c)
 
 enum-known-c : tie.Need-enum-known-c Inv-loop μ-loop
 enum-known-c c = search needs
@@ -109,9 +106,10 @@ returns-3 c =
     let stands = c .before .before .before .before .before .before .before .before .before .before .before .loop .inv in
     let read = c .before .before .before .before .before .before .before .before .before .before in
     let seen = c .before .before .before .before .before .before .before .before in
-    let kinds = ap₂ (λ (a b : ℕ). constraintFault (c .before .before .before .before .before .before .before .before .before .before .before .loop .n) (c .before .before .before .before .before .before .before .before .before .before .before .loop .m) a b (seen .c .given .0 .0)) (c .before .before .before .before .before .kind-of .ensures) (c .before .before .before .kind-of2 .ensures) in
     as-ended _ _ _ _ _ _ (c .ended3 .ensures)
-    (refuses-constraint _ _ _ _ _ stands _ (sym (ap meant (seen .c .given .1)) ∙ read .record-at .ensures) _ (c .before .before .constraint-fault .ensures ∙ kinds) (c .before .if2 .taken))
+    (refuses-constraint _ _ _ _ _ stands _ (sym (ap meant (seen .c .given .1)) ∙ read .record-at .ensures)
+    (c .before .before .before .before .before .kind-of .ensures) (c .before .before .before .kind-of2 .ensures)
+    _ (c .before .before .constraint-fault .ensures) (c .before .if2 .taken))
 
 mul-ends : tie.Need-mul-ends Inv-loop μ-loop
 mul-ends c = search needs
@@ -146,21 +144,17 @@ add-m c = search needs
 add-at-2 : tie.Need-add-at-2 Inv-loop μ-loop
 add-at-2 c = search needs
 
-loop-less-2 : tie.Need-loop-less-2 Inv-loop μ-loop
-loop-less-2 c =
-    let stands = c .before .before .before .before .before .before .before .before .before .before .loop .inv in
-    let read = c .before .before .before .before .before .before .before .before .before in
-    let seen = c .before .before .before .before .before .before .before in
-    let kinds = ap₂ (λ (a b : ℕ). constraintFault (c .before .before .before .before .before .before .before .before .before .before .loop .n) (c .before .before .before .before .before .before .before .before .before .before .loop .m) a b (seen .c .given .0 .0)) (c .before .before .before .before .kind-of .ensures) (c .before .before .kind-of2 .ensures) in
-    omega (arith, takes-constraint _ _ _ _ _ stands _ (sym (ap meant (seen .c .given .1)) ∙ read .record-at .ensures) (sym (c .before .constraint-fault .ensures ∙ kinds) ∙ c .if2 .left))
-
 loop-again-2 : tie.Need-loop-again-2 Inv-loop μ-loop
 loop-again-2 c =
     let stands = c .before .before .before .before .before .before .before .before .before .before .loop .inv in
     let read = c .before .before .before .before .before .before .before .before .before in
     let seen = c .before .before .before .before .before .before .before in
-    let kinds = ap₂ (λ (a b : ℕ). constraintFault (c .before .before .before .before .before .before .before .before .before .before .loop .n) (c .before .before .before .before .before .before .before .before .before .before .loop .m) a b (seen .c .given .0 .0)) (c .before .before .before .before .kind-of .ensures) (c .before .before .kind-of2 .ensures) in
-    takes-constraint _ _ _ _ _ stands _ (sym (ap meant (seen .c .given .1)) ∙ read .record-at .ensures) (sym (c .before .constraint-fault .ensures ∙ kinds) ∙ c .if2 .left)
+    behind-constraint _ _ _ _ _ stands _ (sym (ap meant (seen .c .given .1)) ∙ read .record-at .ensures)
+    (c .before .before .before .before .kind-of .ensures) (c .before .before .kind-of2 .ensures)
+    _ (c .before .constraint-fault .ensures) (c .if2 .left)
+
+loop-less-2 : tie.Need-loop-less-2 Inv-loop μ-loop
+loop-less-2 c = omega (arith, loop-again-2 c)
 
 enum-told : tie.Need-enum-told Inv-loop μ-loop
 enum-told c = search needs

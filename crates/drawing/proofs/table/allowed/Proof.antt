@@ -1,7 +1,7 @@
 -- `table::allowed` meets its contract: in each arm the kind is known, and the definition computes to the arm's row. Assumes nothing.
 use Rattle.drawing.specs.Choice.{pick}
 use Rattle.drawing.specs.Table.{allowed}
-use Rattle.drawing.proofs.Tests.{tests}
+use Rattle.drawing.proofs.Choice.{tests}
 use Rattle.drawing.proofs.table.allowed.Statement.{statement}
 use Rattle.drawing.proofs.table.allowed.Tie as tie
 

@@ -1,6 +1,6 @@
 -- `table::object_kind` meets its contract: the code is the definition, test for test. Assumes nothing.
 use Rattle.drawing.specs.Table.{objectKind}
-use Rattle.drawing.proofs.Tests.{tests}
+use Rattle.drawing.proofs.Choice.{tests}
 use Rattle.drawing.proofs.table.object_kind.Statement.{statement}
 use Rattle.drawing.proofs.table.object_kind.Tie as tie
 

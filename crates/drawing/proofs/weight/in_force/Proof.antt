@@ -1,7 +1,7 @@
 -- `weight::in_force` meets its contract: each arm is a side of the definition's choice. Assumes nothing.
 use Rattle.drawing.specs.Choice.{pick}
 use Rattle.drawing.specs.Weight.{inForce}
-use Rattle.drawing.proofs.Tests.{tests}
+use Rattle.drawing.proofs.Choice.{tests}
 use Rattle.drawing.proofs.weight.in_force.Statement.{statement}
 use Rattle.drawing.proofs.weight.in_force.Tie as tie
 

@@ -7,12 +7,13 @@ use Rattle.drawing.specs.Table.{tableWeight}
 use Rattle.drawing.specs.Weight.{inForce}
 use Rattle.limits.specs.Limits.{mostConstraints}
 use Rattle.drawing.specs.WeightArrays.{Filled, constraintValue}
-use Rattle.drawing.proofs.Stores.{filled-none, filled-more, filled-all}
+use Rattle.drawing.proofs.weight.Filled.{filled-none, filled-more, filled-all}
 use Rattle.drawing.proofs.weight.weigh_constraints.Statement.{statement}
 use Rattle.drawing.proofs.weight.weigh_constraints.Tie as tie
 
 abbrev Inv-loop : tie.InvT-loop
-Inv-loop m ends object-kinds kinds stated weights₀ e₀ weights e = (e ≤ m) × Filled mostConstraints e (constraintValue ends object-kinds kinds stated) weights
+Inv-loop m ends object-kinds kinds stated weights₀ e₀ weights e =
+    (e ≤ m) × Filled mostConstraints e (constraintValue ends object-kinds kinds stated) weights
 
 abbrev μ-loop : tie.MeasureT-loop
 μ-loop m ends object-kinds kinds stated weights₀ e₀ weights e = m - e
@@ -69,7 +70,12 @@ loop-less : tie.Need-loop-less Inv-loop μ-loop
 loop-less c = search needs
 
 loop-again : tie.Need-loop-again Inv-loop μ-loop
-loop-again c = (omega arith, filled-more _ _ _ _ (c .before .before .before .before .before .before .before .before .before .loop .inv .1) (omega arith) (c .in-force .ensures ∙ ap (inForce _) (c .before .table-weight .ensures ∙ ap₂ (tableWeight _) (c .before .before .before .before .before .before .kind-of .ensures) (c .before .before .before .before .kind-of2 .ensures))))
+loop-again c =
+    let inv = c .before .before .before .before .before .before .before .before .before .loop .inv in
+    let first = c .before .before .before .before .before .before .kind-of .ensures in
+    let second = c .before .before .before .before .kind-of2 .ensures in
+    let weight = c .in-force .ensures ∙ ap (inForce _) (c .before .table-weight .ensures ∙ ap₂ (tableWeight _) first second) in
+    (omega arith, filled-more _ _ _ _ (inv .1) (omega arith) weight)
 
 returns : tie.Need-returns Inv-loop μ-loop
 returns c = filled-all _ _ _ _ (c .before .loop .inv .1) (c .before .loop .inv .0) (c .loop-test .left)

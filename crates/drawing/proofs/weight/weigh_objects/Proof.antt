@@ -6,7 +6,7 @@ use borrow.Author.Needs.{needs}
 use Rattle.drawing.specs.Weight.{inForce}
 use Rattle.limits.specs.Limits.{mostObjects}
 use Rattle.drawing.specs.WeightArrays.{Filled, objectValue}
-use Rattle.drawing.proofs.Stores.{filled-none, filled-more, filled-all}
+use Rattle.drawing.proofs.weight.Filled.{filled-none, filled-more, filled-all}
 use Rattle.drawing.proofs.weight.weigh_objects.Statement.{statement}
 use Rattle.drawing.proofs.weight.weigh_objects.Tie as tie
 
@@ -41,7 +41,10 @@ loop-less : tie.Need-loop-less Inv-loop μ-loop
 loop-less c = search needs
 
 loop-again : tie.Need-loop-again Inv-loop μ-loop
-loop-again c = (omega arith, filled-more _ _ _ _ (c .before .before .before .before .before .loop .inv .1) (omega arith) (c .in-force .ensures ∙ ap (inForce _) (c .before .object-table .ensures)))
+loop-again c =
+    let inv = c .before .before .before .before .before .loop .inv in
+    let weight = c .in-force .ensures ∙ ap (inForce _) (c .before .object-table .ensures) in
+    (omega arith, filled-more _ _ _ _ (inv .1) (omega arith) weight)
 
 returns : tie.Need-returns Inv-loop μ-loop
 returns c = filled-all _ _ _ _ (c .before .loop .inv .1) (c .before .loop .inv .0) (c .loop-test .left)

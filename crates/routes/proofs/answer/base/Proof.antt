@@ -1,5 +1,5 @@
 -- `routes::answer::base` meets its contract. Assumes nothing.
-use Rattle.routes.proofs.Opening.{spread-settling, spread-settled}
+use Rattle.routes.proofs.answer.EmptyStart.{spread-settling, spread-settled}
 use Rattle.routes.proofs.answer.base.Statement.{statement}
 use Rattle.routes.proofs.answer.base.Tie as tie
 

@@ -1,6 +1,6 @@
 -- `routes::answer::nothing` meets its contract. Assumes nothing.
 use borrow.Author.Needs.{needs}
-use Rattle.routes.proofs.Opening.{fair-named, opened}
+use Rattle.routes.proofs.answer.EmptyStart.{fair-named, opened}
 use Rattle.routes.proofs.answer.nothing.Statement.{statement}
 use Rattle.routes.proofs.answer.nothing.Tie as tie
 

@@ -1,23 +1,23 @@
 -- `routes::answer::remainder` meets its contract. The invariant: the sum over the constraints passed. Assumes nothing.
 use Prim.Native.Nat.{_-_}
 use native.Mathlib.Omega.{arith}
-use Rattle.routes.proofs.Opening.{Adding, adding-start, adding-asks, adding-turn, adding-end}
+use Rattle.routes.proofs.answer.WeightLeft.{RemainderBelow, remainder-start, remainder-asks, remainder-turn, remainder-end}
 use Rattle.routes.proofs.answer.remainder.Statement.{statement}
 use Rattle.routes.proofs.answer.remainder.Tie as tie
 
 abbrev Inv-loop : tie.InvT-loop
-Inv-loop m shares takes sum₀ e₀ sum e = Adding m takes shares sum e
+Inv-loop m shares takes sum₀ e₀ sum e = RemainderBelow m takes shares sum e
 
 abbrev μ-loop : tie.MeasureT-loop
 μ-loop m shares takes sum₀ e₀ sum e = m - e
 
 loop-holds : tie.Need-loop-holds Inv-loop μ-loop
-loop-holds c = adding-start (c .args .m) (c .args .takes .now) (c .args .shares .now)
+loop-holds c = remainder-start (c .args .m) (c .args .takes .now) (c .args .shares .now)
 
 left-requires : tie.Need-left-requires Inv-loop μ-loop
 left-requires c κs =
     let l = c .before in
-    adding-asks (l .before .pre) (l .loop .inv) (c .loop-test .taken)
+    remainder-asks (l .before .pre) (l .loop .inv) (c .loop-test .taken)
 
 add-sum : tie.Need-add-sum Inv-loop μ-loop
 add-sum c =
@@ -33,12 +33,12 @@ loop-less c = omega (arith, c .before .loop-test .taken)
 loop-again : tie.Need-loop-again Inv-loop μ-loop
 loop-again c =
     let l = c .before .before in
-    adding-turn (l .before .pre) (l .loop .inv) (c .before .loop-test .taken) (c .left .result) (c .left .ensures)
+    remainder-turn (l .before .pre) (l .loop .inv) (c .before .loop-test .taken) (c .left .result) (c .left .ensures)
 
 returns : tie.Need-returns Inv-loop μ-loop
 returns c =
     let l = c .before in
-    adding-end (l .before .pre) (l .loop .inv) (c .loop-test .left)
+    remainder-end (l .before .pre) (l .loop .inv) (c .loop-test .left)
 
 pub remainder-spec : {M : Type 1} → statement M
 remainder-spec = tie.close (tie.spec Inv-loop μ-loop loop-holds left-requires add-sum add-e loop-less loop-again returns)

@@ -1,7 +1,8 @@
 -- `routes::chains::chain` meets its contract. The invariant: the places below i are chained. Assumes nothing.
-use Prim.Native.Nat.{_-_, _*_}
+use Prim.Native.Nat.{_-_, _*_, _<_}
 use native.Mathlib.Omega.{arith}
-use Rattle.routes.proofs.Chaining.{Chaining, chain-start, chain-turn, chain-end}
+use Rattle.limits.specs.Limits.{mostObjects}
+use Rattle.routes.proofs.chains.Chaining.{Chaining, chain-start, chain-turn, chain-end}
 use Rattle.routes.proofs.chains.chain.Statement.{statement}
 use Rattle.routes.proofs.chains.chain.Tie as tie
 
@@ -20,15 +21,17 @@ mul-loop c = omega (arith, c .before .pre .few)
 place-at-requires : tie.Need-place-at-requires Inv-loop μ-loop
 place-at-requires c κs = omega (arith, c .before .before .pre .few)
 
-mul-next : tie.Need-mul-next Inv-loop μ-loop
-mul-next c =
+-- the end at i is an object
+v-small : (c : tie.After-place-at Inv-loop μ-loop) → c .place-at .result < mostObjects
+v-small c =
     let l = c .before .before in
     omega (arith, c .place-at .ensures, l .before .pre .named (l .loop .i) (c .before .loop-test .taken))
 
+mul-next : tie.Need-mul-next Inv-loop μ-loop
+mul-next c = omega (arith, v-small c)
+
 array-read-next : tie.Need-array-read-next Inv-loop μ-loop
-array-read-next c =
-    let l = c .before .before in
-    omega (arith, c .place-at .ensures, l .before .pre .named (l .loop .i) (c .before .loop-test .taken), l .loop .inv .head-long)
+array-read-next c = omega (arith, v-small c, c .before .before .loop .inv .head-long)
 
 mul-next-2 : tie.Need-mul-next-2 Inv-loop μ-loop
 mul-next-2 c = omega (arith, c .before .before .before .pre .few)
@@ -45,14 +48,10 @@ cast-head : tie.Need-cast-head Inv-loop μ-loop
 cast-head c = omega (arith, c .before .before .before .pre .few)
 
 mul-head : tie.Need-mul-head Inv-loop μ-loop
-mul-head c =
-    let l = c .before .before in
-    omega (arith, c .place-at .ensures, l .before .pre .named (l .loop .i) (c .before .loop-test .taken))
+mul-head c = omega (arith, v-small c)
 
 array-write-head : tie.Need-array-write-head Inv-loop μ-loop
-array-write-head c =
-    let l = c .before .before in
-    omega (arith, c .place-at .ensures, l .before .pre .named (l .loop .i) (c .before .loop-test .taken), l .loop .inv .head-long)
+array-write-head c = omega (arith, v-small c, c .before .before .loop .inv .head-long)
 
 loop-less : tie.Need-loop-less Inv-loop μ-loop
 loop-less c = omega arith

@@ -2,11 +2,11 @@
 use Prim.Native.Nat.{_/_}
 use borrow.Author.Needs.{needs}
 use borrow.Author.Tests.{eqb-true, eqb-false}
+use native.Mathlib.Nat.{pos-of-ne-zero}
 use native.Mathlib.Omega.{arith}
 use lib.Dec.{T}
 use mathlib.Core.Path.{subst, sym}
 use Rattle.routes.specs.At.{at}
-use Rattle.routes.proofs.Small.{positive}
 use Rattle.routes.proofs.search.waiting.Statement.{statement}
 use Rattle.routes.proofs.search.waiting.Tie as tie
 
@@ -26,8 +26,8 @@ returns-2 : tie.Need-returns-2
 returns-2 c =
     let a = c .before .before .before .args in
     record {
-      yes = λ e. (positive (at (a .shares .now) (a .k)) (c .before .if1 .left), eqb-true (at (a .stuck .now) (a .k / 2)) 0 e);
-      no = λ e h. positive (at (a .stuck .now) (a .k / 2)) (eqb-false (at (a .stuck .now) (a .k / 2)) 0 e);
+      yes = λ e. (pos-of-ne-zero (c .before .if1 .left), eqb-true (at (a .stuck .now) (a .k / 2)) 0 e);
+      no = λ e h. pos-of-ne-zero (eqb-false (at (a .stuck .now) (a .k / 2)) 0 e);
     }
 
 pub waiting-spec : {M : Type 1} → statement M

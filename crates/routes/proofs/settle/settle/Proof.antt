@@ -2,52 +2,59 @@
 use Prim.Native.Nat.{_-_}
 use native.Mathlib.Omega.{arith}
 use Rattle.routes.specs.State.{State, state}
-use Rattle.routes.proofs.Placing.{Placing-all, all-start, all-end, all-left, all-asks, all-skip, all-on}
+use Rattle.routes.proofs.settle.AllConstraints.{DoneBelow, all-start, all-end, all-left, all-asks, all-skip, all-on}
 use Rattle.routes.proofs.settle.settle.Statement.{statement}
 use Rattle.routes.proofs.settle.settle.Tie as tie
 
 abbrev Inv-loop : tie.InvT-loop
 Inv-loop m stuck₀ shares₀ room₀ takes ends head next reached₀ after₀ stuck shares room reached after =
-    Placing-all m after ends takes (state (reached₀ .objects) stuck₀ shares₀ room₀) (state (reached .objects) stuck shares room)
+    DoneBelow m after ends takes (state (reached₀ .objects) stuck₀ shares₀ room₀) (state (reached .objects) stuck shares room)
 
 abbrev μ-loop : tie.MeasureT-loop
 μ-loop m stuck₀ shares₀ room₀ takes ends head next reached₀ after₀ stuck shares room reached after = m - after
 
--- the state after a constraint is placed
-abbrev placed : tie.After-place Inv-loop μ-loop → State
-placed c = state (c .place .result .objects) (c .place .last .1 .1 .1 .0) (c .place .last .1 .1 .1 .1 .0) (c .place .last .1 .1 .1 .1 .1 .0)
+-- the state after a constraint has handed out its weight
+abbrev handed-out : tie.After-hand-out Inv-loop μ-loop → State
+handed-out c = state (c .hand-out .result .objects) (c .hand-out .last .1 .1 .1 .0) (c .hand-out .last .1 .1 .1 .1 .0) (c .hand-out .last .1 .1 .1 .1 .1 .0)
+
+-- from a hand-out back to whether it was needed, and from there to the turn of the loop
+abbrev needed : tie.After-hand-out Inv-loop μ-loop → tie.After-needs-route Inv-loop μ-loop
+needed h = h .before .before .before .before .before
+
+abbrev turn : tie.After-needs-route Inv-loop μ-loop → tie.In-loop Inv-loop μ-loop
+turn w = w .before .before .before
 
 loop-holds : tie.Need-loop-holds Inv-loop μ-loop
 loop-holds c = all-start (c .pre)
 
 add-after : tie.Need-add-after Inv-loop μ-loop
-add-after c = omega (arith, c .loop-test .taken, c .before .before .pre .wired .few)
+add-after c = omega (arith, c .loop-test .taken, c .before .before .pre .chained .few)
 
-waits-requires : tie.Need-waits-requires Inv-loop μ-loop
-waits-requires c κs =
-    let l = c .before .before .before in
-    all-left (l .before .pre) (l .loop .inv) (c .before .before .loop-test .taken)
+needs-route-requires : tie.Need-needs-route-requires Inv-loop μ-loop
+needs-route-requires c κs =
+    let b = c .before .before in let l = b .before in
+    all-left (l .before .pre) (l .loop .inv) (b .loop-test .taken)
 
-place-requires : tie.Need-place-requires Inv-loop μ-loop
-place-requires c κs =
-    let w = c .before .before .before .before in let l = w .before .before .before .before in
-    all-asks (l .before .pre) (l .loop .inv) (w .before .before .before .loop-test .taken) (w .waits .ensures .yes (c .before .before .before .if1 .taken) .1)
+hand-out-requires : tie.Need-hand-out-requires Inv-loop μ-loop
+hand-out-requires c κs =
+    let w = c .before .before .before .before in let b = turn w in let l = b .before in
+    all-asks (l .before .pre) (l .loop .inv) (b .loop-test .taken) (w .needs-route .ensures .yes (c .before .before .before .if1 .taken) .1)
 
 loop-less : tie.Need-loop-less Inv-loop μ-loop
-loop-less c = omega (arith, c .before .before .before .before .before .before .before .before .loop-test .taken)
+loop-less c = omega (arith, turn (needed c) .loop-test .taken)
 
 loop-again : tie.Need-loop-again Inv-loop μ-loop
 loop-again c =
-    let l = c .before .before .before .before .before .before .before .before .before in
-    all-on (l .before .pre) (l .loop .inv) (c .before .before .before .before .before .before .before .before .loop-test .taken) {u = placed c} (c .place .ensures)
+    let b = turn (needed c) in let l = b .before in
+    all-on (l .before .pre) (l .loop .inv) (b .loop-test .taken) {u = handed-out c} (c .hand-out .ensures)
 
 loop-less-2 : tie.Need-loop-less-2 Inv-loop μ-loop
-loop-less-2 c = omega (arith, c .before .before .before .before .loop-test .taken)
+loop-less-2 c = omega (arith, turn (c .before) .loop-test .taken)
 
 loop-again-2 : tie.Need-loop-again-2 Inv-loop μ-loop
 loop-again-2 c =
-    let l = c .before .before .before .before .before in
-    all-skip (l .before .pre) (l .loop .inv) (c .before .before .before .before .loop-test .taken) (c .before .waits .ensures .no (c .if1 .left))
+    let w = c .before in let b = turn w in let l = b .before in
+    all-skip (l .before .pre) (l .loop .inv) (b .loop-test .taken) (w .needs-route .ensures .no (c .if1 .left))
 
 returns : tie.Need-returns Inv-loop μ-loop
 returns c =
@@ -55,4 +62,4 @@ returns c =
     all-end (l .before .pre) (l .loop .inv) (c .loop-test .left)
 
 pub settle-spec : {M : Type 1} → statement M
-settle-spec = tie.close (tie.spec Inv-loop μ-loop loop-holds add-after waits-requires place-requires loop-less loop-again loop-less-2 loop-again-2 returns)
+settle-spec = tie.close (tie.spec Inv-loop μ-loop loop-holds add-after needs-route-requires hand-out-requires loop-less loop-again loop-less-2 loop-again-2 returns)

@@ -1,0 +1,212 @@
+-- From what the functions of a question answer to its statement. Assumes nothing.
+use mathlib.Core.Path.{_≡_, refl, sym, _∙_, ap, ap₂, subst, subst₂}
+use mathlib.Core.Bool.{Bool, true, false}
+use mathlib.Core.Logic.{inl, inr}
+use mathlib.Core.List.{List, [], _++_}
+use Prim.Native.Nat.{ℕ, _≤_, _<_}
+use native.Mathlib.Omega.{arith}
+use lib.Dec.{ltb}
+use lib.IntN.{ℤ, subℕ}
+use lib.ListN.{length}
+use Rattle.limits.specs.Limits.{mostObjects}
+use Rattle.density.specs.Net.{Net, Set}
+use Rattle.density.specs.Top.{AnswerSet, Top, LowestAbove, NoneAt}
+use Rattle.density.specs.Sheet.{Sound, claim}
+use Rattle.density.proofs.Shares.{sound-same, claim-same}
+use Rattle.density.proofs.OneAnswer.{answer-top}
+use Rattle.drawing.specs.Entry.{Drawing}
+use Rattle.drawing.specs.Read.{Reading}
+use Rattle.routes.specs.declared.search.Marks.{Marks}
+use Rattle.routes.specs.Arrays.{sharesIn, members}
+use Rattle.counter.specs.declared.net.NetArrays.{NetArrays}
+use Rattle.counter.specs.declared.block.Block.{Block}
+use Rattle.counter.specs.declared.block.Finding.{Finding}
+use Rattle.counter.specs.Weighed.{weighed}
+use Rattle.counter.specs.Block.{two, numbersSize, block, blockSize}
+use Rattle.counter.specs.Sheet.{sheetSize, sheetIn}
+use Rattle.counter.specs.Fault.{roomFault, numberFault, rangeFault, FirstOf}
+use Rattle.counter.specs.Outcome.{says, answered, over, Answers}
+use Rattle.counter.specs.Question.{lookOver, oneConstraint, anyDense, sheetFor, check, BlockOf, LowestBlock, Shows}
+use Rattle.counter.specs.NetFor.{netHeld, Countable, AcceptedAs, CountsFor, NetFor}
+use Rattle.counter.specs.Counting.{SolvedIn, BlockIn, LowestIn, Sought}
+use Rattle.counter.specs.Written.{Writable, blockBytes, FindingWritten, SheetWritten}
+use Rattle.counter.specs.Checked.{Checked}
+use Rattle.counter.proofs.Blocks.{block-within}
+use Rattle.counter.proofs.Outcomes.{ByCount, refuses, answers}
+
+-- ---- the fault of each question, by how many constraints there are
+
+abbrev look-over-by : (room : ℕ) → ByCount (lookOver room)
+look-over-by room = record { asked = λ _. roomFault room numbersSize; same = λ d. refl }
+
+abbrev one-by : (c room : ℕ) → ByCount (oneConstraint c room)
+one-by c room = record { asked = λ m. numberFault m c (roomFault room blockSize); same = λ d. refl }
+
+abbrev any-by : (k : ℤ) (room : ℕ) → ByCount (anyDense k room)
+any-by k room = record { asked = λ _. rangeFault k (roomFault room blockSize); same = λ d. refl }
+
+abbrev sheet-by : (c room : ℕ) → ByCount (sheetFor c room)
+sheet-by c room = record { asked = λ m. numberFault m c (roomFault room (sheetSize m)); same = λ d. refl }
+
+abbrev check-by : (c : ℕ) (b : List ℕ) (z : ℤ) → ByCount (check c b z)
+check-by c b z = record { asked = λ m. numberFault m c (roomFault (length b) (sheetSize m)); same = λ d. refl }
+
+-- ---- look over
+
+module _ {x : Reading} {code n m : ℕ} (stands : CountsFor x code n m) {before : List ℕ} {Fine : Type 0} {r : ℕ}
+    (first : FirstOf code (roomFault (length before) numbersSize) Fine r) where
+  pub look-over-refuses : (r ≡ 0 → ⊥) → Answers (lookOver (length before)) x r before before
+  look-over-refuses h = refuses (look-over-by (length before)) stands first h
+
+  pub looked-over : r ≡ 0 → {after : List ℕ} → after ≡ over (two n ++ two m) before → Answers (lookOver (length before)) x 0 before after
+  looked-over z w =
+      answers (look-over-by (length before)) stands first z (answered (two n ++ two m))
+      (ap₂ (λ (i j : ℕ). answered (two i ++ two j)) (sym (is .objects-are)) (sym (is .constraints-are))) w
+    where
+      is : AcceptedAs x n m
+      is = stands .accepted-as (first .clean z)
+
+-- ---- blocks
+
+-- a block that was counted can be written, and it is the block of its constraint in the drawing
+module _ {a : NetArrays} {c : ℕ} {b : Block} (block-in : BlockIn a c b) where
+  pub writable : Countable a → Writable b
+  writable can =
+      record {
+        constraint = omega (arith, block-in .is, block-in .constraint-is, can .fair .few-constraints);
+        above = omega (arith, block-in .solved .above-small);
+        below = omega (arith, block-in .solved .below-small);
+      }
+
+  block-for : {x : Reading} (stands : NetFor x a) (z : a .code ≡ 0) → BlockOf (stands .counts-for .accepted-as z .drawing) c (answered (blockBytes b))
+  block-for {x} stands z =
+      record {
+        top = top;
+        set = set;
+        answer = subst (λ (g : Net). AnswerSet g c top set) (sym (stands .net-is z)) (block-in .solved .answer);
+        is = ap answered (ap (λ (k : ℕ). block mostObjects k top set) (block-in .constraint-is) ∙ narrow ∙ ap (λ (k : ℕ). block k c top set) (sym objects-are));
+      }
+    where
+      top : ℤ
+      top = subℕ (b .above) (b .below)
+
+      set : Set
+      set = members (b .marks .objects)
+
+      objects-are : length (stands .counts-for .accepted-as z .drawing .objects) ≡ a .objects
+      objects-are = stands .counts-for .accepted-as z .objects-are
+
+      narrow : block mostObjects c top set ≡ block (a .objects) c top set
+      narrow = block-within (a .objects) c top set (stands .counts-for .few-objects) (λ v g. ap (ltb 0) (block-in .solved .outside v g))
+
+-- ---- one constraint
+
+module _ {x : Reading} {a : NetArrays} (stands : NetFor x a) {c : ℕ} {before : List ℕ} {Fine : Type 0} {r : ℕ}
+    (first : FirstOf (a .code) (numberFault (a .constraints) c (roomFault (length before) blockSize)) Fine r) where
+  pub one-refuses : (r ≡ 0 → ⊥) → Answers (oneConstraint c (length before)) x r before before
+  one-refuses h = refuses (one-by c (length before)) (stands .counts-for) first h
+
+  pub one-answered : r ≡ 0 → {b : Block} {after : List ℕ} → BlockIn a c b → after ≡ over (blockBytes b) before
+      → Answers (oneConstraint c (length before)) x 0 before after
+  one-answered z {b} block-in w =
+      answers (one-by c (length before)) (stands .counts-for) first z (answered (blockBytes b))
+      (block-for block-in stands (first .clean z)) w
+
+-- ---- any dense: y is K as the code hands it on
+
+module _ {x : Reading} {a : NetArrays} (stands : NetFor x a) {y k : ℤ} (same : y ≡ k) {before : List ℕ} {Fine : Type 0} {r : ℕ}
+    (first : FirstOf (a .code) (rangeFault y (roomFault (length before) blockSize)) Fine r) where
+  for-k : {code : ℕ} {after : List ℕ} → Answers (anyDense y (length before)) x code before after → Answers (anyDense k (length before)) x code before after
+  for-k {code} {after} b = subst (λ (z : ℤ). Answers (anyDense z (length before)) x code before after) same b
+
+  pub any-refuses : (r ≡ 0 → ⊥) → Answers (anyDense k (length before)) x r before before
+  any-refuses h = for-k (refuses (any-by y (length before)) (stands .counts-for) first h)
+
+  module _ (z : r ≡ 0) {f : Finding} (sought : Sought a y f) where
+    found : f .found ≡ true → {after : List ℕ} → after ≡ over (blockBytes (f .block)) before → Answers (anyDense y (length before)) x 0 before after
+    found e w =
+        answers (any-by y (length before)) (stands .counts-for) first z (answered (blockBytes (f .block)))
+        (inl
+        (record {
+          constraint = f .block .constraint;
+          lowest = subst (λ (g : Net). LowestAbove g y (f .block .constraint)) (sym (stands .net-is (first .clean z))) (sought .yes e .lowest);
+          block-of = block-for (sought .yes e .block-in) stands (first .clean z);
+        }))
+        w
+
+    none : f .found ≡ false → Answers (anyDense y (length before)) x 32 before before
+    none e =
+        answers (any-by y (length before)) (stands .counts-for) first z (says 32)
+        (inr (record { none = subst (λ (g : Net). NoneAt g y) (sym (stands .net-is (first .clean z))) (sought .no e); is = refl })) refl
+
+    pub any-answered : {code : ℕ} {after : List ℕ} → FindingWritten f before code after
+        → Answers (anyDense k (length before)) x code before after
+    any-answered {code} {after} written = for-k (go (f .found) refl)
+      where
+        go : (b : Bool) → f .found ≡ b → Answers (anyDense y (length before)) x code before after
+        go true e = let w = written .yes e in subst (λ (n : ℕ). Answers (anyDense y (length before)) x n before after) (sym (w .0)) (found e (w .1))
+        go false e =
+            let w = written .no e in
+            subst₂ (λ (n : ℕ) (l : List ℕ). Answers (anyDense y (length before)) x n before l) (sym (w .0)) (sym (w .1)) (none e)
+
+-- ---- the sheet
+
+module _ {x : Reading} {a : NetArrays} (stands : NetFor x a) {c : ℕ} {before : List ℕ} {Fine : Type 0} {r : ℕ}
+    (first : FirstOf (a .code) (numberFault (a .constraints) c (roomFault (length before) (sheetSize (a .constraints)))) Fine r) where
+  pub sheet-refuses : (r ≡ 0 → ⊥) → Answers (sheetFor c (length before)) x r before before
+  sheet-refuses h = refuses (sheet-by c (length before)) (stands .counts-for) first h
+
+  pub sheet-answered : r ≡ 0 → {above below : ℕ} {marks : Marks} {shares after : List ℕ} → SolvedIn a c marks shares above below
+      → SheetWritten (a .constraints) shares before after → Answers (sheetFor c (length before)) x 0 before after
+  sheet-answered z {above} {below} {marks} {shares} solved written =
+      answers (sheet-by c (length before)) (stands .counts-for) first z (answered (written .bytes))
+      (record {
+        bytes = written .bytes;
+        long = written .long ∙ ap sheetSize (sym (stands .counts-for .accepted-as (first .clean z) .constraints-are));
+        sound =
+            subst (λ (g : Net). Sound g c (sheetIn (written .bytes))) (sym net-is)
+            (sound-same (netHeld a) (sharesIn shares) (sheetIn (written .bytes)) (λ i e l. sym (written .shares-are i e l)) c (solved .sound));
+        top =
+            subst (λ (g : Net). Top g c (claim g c (sheetIn (written .bytes)))) (sym net-is)
+            (subst (λ (t : ℤ). Top (netHeld a) c t) shown (answer-top (netHeld a) c (subℕ above below) (members (marks .objects)) (solved .answer)));
+        is = refl;
+      })
+      (written .after-is)
+    where
+      net-is : weighed (stands .counts-for .accepted-as (first .clean z) .drawing) ≡ netHeld a
+      net-is = stands .net-is (first .clean z)
+
+      shown : subℕ above below ≡ claim (netHeld a) c (sheetIn (written .bytes))
+      shown =
+          sym (solved .claims) ∙ claim-same (netHeld a) (sharesIn shares) (sheetIn (written .bytes)) (λ i e l. sym (written .shares-are i e l)) c
+
+-- ---- the check
+
+module _ {x : Reading} {a : NetArrays} (stands : NetFor x a) {c : ℕ} {b : List ℕ} {claimed : ℤ} {Fine : Type 0} {r : ℕ}
+    (first : FirstOf (a .code) (numberFault (a .constraints) c (roomFault (length b) (sheetSize (a .constraints)))) Fine r) where
+  pub check-refuses : (r ≡ 0 → ⊥) → Answers (check c b claimed) x r [] []
+  check-refuses h = refuses (check-by c b claimed) (stands .counts-for) first h
+
+  -- y is the number claimed as the code hands it on
+  module _ (z : r ≡ 0) {y : ℤ} (same : y ≡ claimed) {t : Bool} (checked : Checked a c b y t) where
+    pub check-shows : t ≡ true → Answers (check c b claimed) x 0 [] []
+    check-shows e =
+        answers (check-by c b claimed) (stands .counts-for) first z (says 0)
+        (inl (shown-by (stands .net-is (first .clean z)), refl)) refl
+      where
+        shown-by : {d : Drawing} → weighed d ≡ netHeld a → Shows d c b claimed
+        shown-by is =
+            record {
+              sound = subst (λ (g : Net). Sound g c (sheetIn b)) (sym is) (checked .sound e);
+              claims = subst (λ (g : Net). claim g c (sheetIn b) ≡ claimed) (sym is) (checked .claims e ∙ same);
+            }
+
+    pub check-shows-not : t ≡ false → Answers (check c b claimed) x 33 [] []
+    check-shows-not e =
+        answers (check-by c b claimed) (stands .counts-for) first z (says 33)
+        (inr (not-shown (stands .net-is (first .clean z)), refl)) refl
+      where
+        not-shown : {d : Drawing} → weighed d ≡ netHeld a → Shows d c b claimed → ⊥
+        not-shown is shows =
+            checked .else e (subst (λ (g : Net). Sound g c (sheetIn b)) is (shows .sound))
+            (subst (λ (g : Net). claim g c (sheetIn b) ≡ claimed) is (shows .claims) ∙ sym same)

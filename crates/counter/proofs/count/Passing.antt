@@ -1,0 +1,45 @@
+-- Going through the constraints in order: those passed have no top density above K. Assumes nothing.
+use mathlib.Core.Path.{_≡_, refl, subst}
+use mathlib.Core.Bool.{true, false, true≢false, false≢true}
+use mathlib.Core.List.{List}
+use Prim.Native.Nat.{ℕ, _+_, _<_}
+use native.Mathlib.Omega.{arith}
+use lib.IntN.{ℤ, subℕ}
+use lib.Signed.{_≤ℤ_, _<ℤ_}
+use Rattle.density.specs.Net.{Net}
+use Rattle.density.specs.Top.{Top, NoneAt}
+use Rattle.density.proofs.OneAnswer.{NoneBelow, answer-top, lowest-so, none-up-to}
+use Rattle.routes.specs.declared.search.Marks.{Marks}
+use Rattle.routes.specs.Arrays.{members}
+use Rattle.counter.specs.declared.net.NetArrays.{NetArrays}
+use Rattle.counter.specs.declared.block.Block.{Block}
+use Rattle.counter.specs.NetFor.{netHeld}
+use Rattle.counter.specs.Counting.{SolvedIn, LowestIn, Sought}
+
+module _ (a : NetArrays) (k : ℤ) (c above below : ℕ) (marks : Marks) (shares : List ℕ)
+    (none : NoneBelow (netHeld a) k c) (solved : SolvedIn a c marks shares above below) where
+  abbrev d : Net
+  d = netHeld a
+
+  top : Top d c (subℕ above below)
+  top = answer-top d c (subℕ above below) (members (marks .objects)) (solved .answer)
+
+  -- c is not above K either
+  pub one-more : subℕ above below ≤ℤ k → NoneBelow d k (c + 1)
+  one-more h e t l q = none-up-to d k c (subℕ above below) top h none e t (omega arith) q
+
+  -- c is above K, so it is the lowest
+  pub found-here : c < a .constraints → k <ℤ subℕ above below → LowestIn a k (record { constraint = c; above = above; below = below; marks = marks })
+  found-here l h =
+      record {
+        lowest = lowest-so d k c (subℕ above below) l top h none;
+        block-in = record { is = l; constraint-is = refl; shares = shares; solved = solved };
+      }
+
+-- what the search answers at K, which the code has as y
+module _ {a : NetArrays} {y k : ℤ} (same : y ≡ k) {b : Block} where
+  pub one-found : LowestIn a y b → Sought a k (record { found = true; block = b })
+  one-found l = record { yes = λ _. subst (λ (z : ℤ). LowestIn a z b) same l; no = λ e. absurd (true≢false e) }
+
+  pub none-found : NoneAt (netHeld a) y → Sought a k (record { found = false; block = b })
+  none-found n = record { yes = λ e. absurd (false≢true e); no = λ _. subst (λ (z : ℤ). NoneAt (netHeld a) z) same n }

@@ -1,0 +1,2 @@
+-- Laws of the door from bytes to a net.
+mod Standing

@@ -1,0 +1,2 @@
+-- Laws of the writer of a sheet.
+mod Writing

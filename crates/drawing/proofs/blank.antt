@@ -1,0 +1,2 @@
+-- arrays of zeros
+mod Zeros

@@ -1,0 +1,2 @@
+-- the order of a constraint's ends
+mod EitherOrder

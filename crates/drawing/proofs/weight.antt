@@ -1,0 +1,2 @@
+-- the loops that fill the arrays of weights
+mod Filled

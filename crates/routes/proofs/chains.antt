@@ -1,0 +1,2 @@
+-- Laws of the chains as they are made.
+mod Chaining
