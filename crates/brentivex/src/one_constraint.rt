@@ -2,6 +2,7 @@
 use counter::block::BLOCK;
 use counter::block::put_block;
 use counter::count::block_of;
+use counter::count::one;
 use counter::fault::number_fault;
 use counter::net::net_of;
 ghost use lib.ListN.{length};
@@ -21,6 +22,6 @@ pub extern "C" fn brentivex_one_constraint(drawing: &[u8], c: u32, buffer: &mut 
     if fault != 0 {
         return fault;
     }
-    put_block(block_of(net, c), buffer);
+    put_block(block_of(c, one(net, c)), buffer);
     0
 }

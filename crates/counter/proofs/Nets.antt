@@ -1,4 +1,4 @@
--- The net of an accepted drawing is proper and within the limits. Assumes nothing.
+-- The net of an accepted drawing is proper and within the limits, and one that can be counted can be solved. Assumes nothing.
 use mathlib.Core.Path.{_≡_, sym, ap, subst}
 use mathlib.Core.List.{List}
 use Prim.Native.Nat.{ℕ, _≤_, _<_}
@@ -13,6 +13,10 @@ use Rattle.drawing.specs.Sound.{SoundDrawing}
 use Rattle.drawing.specs.Weight.{objectWeight}
 use Rattle.drawing.proofs.Reading.{accepted-sound}
 use Rattle.drawing.proofs.WeightRange.{object-weight, constraint-weight}
+use Rattle.routes.specs.State.{State}
+use Rattle.routes.specs.Answer.{Spread, Solving}
+use Rattle.counter.specs.declared.net.NetArrays.{NetArrays}
+use Rattle.counter.specs.NetFor.{Countable}
 use Rattle.counter.specs.Weighed.{endOf, weightOf, weighed, Within}
 
 pub weight-there : (d : Drawing) (v : ℕ) → v < length (d .objects) → weightOf d v ≡ objectWeight d v
@@ -37,3 +41,9 @@ accepted-within s d e =
     named : (i : Side) (c : ℕ) → c < length (d .constraints) → endOf d i c < length (d .objects)
     named first c h = sound .constraints-sound c h .first-is
     named second c h = sound .constraints-sound c h .second-is
+
+-- each constraint of a net that can be counted can be answered
+pub solving : {a : NetArrays} {c : ℕ} {head next : List ℕ} {s : State} → Countable a → c < a .constraints
+    → Spread (a .constraints) (a .ends) (a .weights) (a .takes) head next s
+    → Solving (a .objects) (a .constraints) c (a .ends) (a .weights) (a .takes) head next s
+solving {c = c} can is spread = record { fair = can .fair; is = is; some = can .heavy c is; spread = spread }

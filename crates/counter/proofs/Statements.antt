@@ -3,7 +3,7 @@ use mathlib.Core.Path.{_≡_, refl, sym, _∙_, ap, ap₂, subst, subst₂}
 use mathlib.Core.Bool.{Bool, true, false}
 use mathlib.Core.Logic.{inl, inr}
 use mathlib.Core.List.{List, [], _++_}
-use Prim.Native.Nat.{ℕ, _≤_, _<_}
+use Prim.Native.Nat.{ℕ, _≤_}
 use native.Mathlib.Omega.{arith}
 use lib.Dec.{ltb}
 use lib.IntN.{ℤ, subℕ}
@@ -16,19 +16,20 @@ use Rattle.density.proofs.Shares.{sound-same, claim-same}
 use Rattle.density.proofs.OneAnswer.{answer-top}
 use Rattle.drawing.specs.Entry.{Drawing}
 use Rattle.drawing.specs.Read.{Reading}
-use Rattle.routes.specs.declared.search.Marks.{Marks}
+use Rattle.routes.specs.declared.answer.Solution.{Solution}
 use Rattle.routes.specs.Arrays.{sharesIn, members}
+use Rattle.routes.specs.Solved.{Solved}
 use Rattle.counter.specs.declared.net.NetArrays.{NetArrays}
 use Rattle.counter.specs.declared.block.Block.{Block}
 use Rattle.counter.specs.declared.block.Finding.{Finding}
 use Rattle.counter.specs.Weighed.{weighed}
 use Rattle.counter.specs.Block.{two, numbersSize, block, blockSize}
 use Rattle.counter.specs.Sheet.{sheetSize, sheetIn}
-use Rattle.counter.specs.Fault.{roomFault, numberFault, rangeFault, FirstOf}
+use Rattle.counter.specs.Fault.{roomFault, numberFault, rangeFault, FirstOf, Named, Ranged}
 use Rattle.counter.specs.Outcome.{says, answered, over, Answers}
-use Rattle.counter.specs.Question.{lookOver, oneConstraint, anyDense, sheetFor, check, BlockOf, LowestBlock, Shows}
+use Rattle.counter.specs.Question.{lookOver, oneConstraint, anyDense, sheetFor, check, BlockOf, Shows}
 use Rattle.counter.specs.NetFor.{netHeld, Countable, AcceptedAs, CountsFor, NetFor}
-use Rattle.counter.specs.Counting.{SolvedIn, BlockIn, LowestIn, Sought}
+use Rattle.counter.specs.Counting.{SolvedIn, blockFrom, BlockIn, AllAt, Sought}
 use Rattle.counter.specs.Written.{Writable, blockBytes, FindingWritten, SheetWritten}
 use Rattle.counter.specs.Checked.{Checked}
 use Rattle.counter.proofs.Blocks.{block-within}
@@ -51,6 +52,20 @@ sheet-by c room = record { asked = λ m. numberFault m c (roomFault room (sheetS
 abbrev check-by : (c : ℕ) (b : List ℕ) (z : ℤ) → ByCount (check c b z)
 check-by c b z = record { asked = λ m. numberFault m c (roomFault (length b) (sheetSize m)); same = λ d. refl }
 
+-- ---- no fault: the net can be counted, and there is room
+
+pub can-count : {x : Reading} {a : NetArrays} → NetFor x a → {asked : ℕ} {Fine : Type 0} {r : ℕ} → FirstOf (a .code) asked Fine r → r ≡ 0 → Countable a
+can-count stands first z = stands .countable (first .clean z)
+
+pub room-enough : {code asked need room r : ℕ} → FirstOf code asked (need ≤ room) r → r ≡ 0 → need ≤ room
+room-enough first z = first .fine z
+
+pub number-enough : {code asked m c need room r : ℕ} → FirstOf code asked (Named m c need room) r → r ≡ 0 → need ≤ room
+number-enough first z = first .fine z .room-for
+
+pub range-enough : {code asked : ℕ} {k : ℤ} {need room r : ℕ} → FirstOf code asked (Ranged k need room) r → r ≡ 0 → need ≤ room
+range-enough first z = first .fine z .room-for
+
 -- ---- look over
 
 module _ {x : Reading} {code n m : ℕ} (stands : CountsFor x code n m) {before : List ℕ} {Fine : Type 0} {r : ℕ}
@@ -68,30 +83,29 @@ module _ {x : Reading} {code n m : ℕ} (stands : CountsFor x code n m) {before 
 
 -- ---- blocks
 
--- a block that was counted can be written, and it is the block of its constraint in the drawing
-module _ {a : NetArrays} {c : ℕ} {b : Block} (block-in : BlockIn a c b) where
-  pub writable : Countable a → Writable b
-  writable can =
-      record {
-        constraint = omega (arith, block-in .is, block-in .constraint-is, can .fair .few-constraints);
-        above = omega (arith, block-in .solved .above-small);
-        below = omega (arith, block-in .solved .below-small);
-      }
+-- the block of an answer can be written
+module _ {n m c : ℕ} {ends weights takes : List ℕ} {top : Solution}
+    (solved : Solved n m c ends weights takes (top .marks .objects) (top .shares) (top .above) (top .below)) where
+  pub writable : {e : ℕ} {b : Block} → b ≡ blockFrom e top → Writable b
+  writable is =
+      subst Writable (sym is) (record { above = omega (arith, solved .above-small); below = omega (arith, solved .below-small) })
 
+-- the block of constraint c of the net is its block in the drawing
+module _ {a : NetArrays} {c : ℕ} {b : Block} (block-in : BlockIn a c b) where
   block-for : {x : Reading} (stands : NetFor x a) (z : a .code ≡ 0) → BlockOf (stands .counts-for .accepted-as z .drawing) c (answered (blockBytes b))
   block-for {x} stands z =
       record {
         top = top;
         set = set;
         answer = subst (λ (g : Net). AnswerSet g c top set) (sym (stands .net-is z)) (block-in .solved .answer);
-        is = ap answered (ap (λ (k : ℕ). block mostObjects k top set) (block-in .constraint-is) ∙ narrow ∙ ap (λ (k : ℕ). block k c top set) (sym objects-are));
+        is = ap answered (ap blockBytes (block-in .block-is) ∙ narrow ∙ ap (λ (k : ℕ). block k c top set) (sym objects-are));
       }
     where
       top : ℤ
-      top = subℕ (b .above) (b .below)
+      top = subℕ (block-in .top .above) (block-in .top .below)
 
       set : Set
-      set = members (b .marks .objects)
+      set = members (block-in .top .marks .objects)
 
       objects-are : length (stands .counts-for .accepted-as z .drawing .objects) ≡ a .objects
       objects-are = stands .counts-for .accepted-as z .objects-are
@@ -106,13 +120,20 @@ module _ {x : Reading} {a : NetArrays} (stands : NetFor x a) {c : ℕ} {before :
   pub one-refuses : (r ≡ 0 → ⊥) → Answers (oneConstraint c (length before)) x r before before
   one-refuses h = refuses (one-by c (length before)) (stands .counts-for) first h
 
-  pub one-answered : r ≡ 0 → {b : Block} {after : List ℕ} → BlockIn a c b → after ≡ over (blockBytes b) before
-      → Answers (oneConstraint c (length before)) x 0 before after
-  one-answered z {b} block-in w =
+  pub one-answered : r ≡ 0 → {top : Solution} → SolvedIn a c top → {b : Block} → b ≡ blockFrom c top
+      → {after : List ℕ} → after ≡ over (blockBytes b) before → Answers (oneConstraint c (length before)) x 0 before after
+  one-answered z {top} solved {b} is w =
       answers (one-by c (length before)) (stands .counts-for) first z (answered (blockBytes b))
-      (block-for block-in stands (first .clean z)) w
+      (block-for (record { top = top; solved = solved; block-is = is }) stands (first .clean z)) w
 
 -- ---- any dense: y is K as the code hands it on
+
+pub all-at : {x : Reading} {a : NetArrays} → NetFor x a → {asked : ℕ} {y : ℤ} {need room r : ℕ}
+    → FirstOf (a .code) asked (Ranged y need room) r → r ≡ 0 → AllAt a y
+all-at stands first z = record { countable = can-count stands first z; in-range = first .fine z .in-range }
+
+pub any-writable : {a : NetArrays} {y : ℤ} {f : Finding} → Sought a y f → f .found ≡ true → Writable (f .block)
+any-writable sought e = let b = sought .yes e .block-in in writable (b .solved) (b .block-is)
 
 module _ {x : Reading} {a : NetArrays} (stands : NetFor x a) {y k : ℤ} (same : y ≡ k) {before : List ℕ} {Fine : Type 0} {r : ℕ}
     (first : FirstOf (a .code) (rangeFault y (roomFault (length before) blockSize)) Fine r) where
@@ -156,19 +177,19 @@ module _ {x : Reading} {a : NetArrays} (stands : NetFor x a) {c : ℕ} {before :
   pub sheet-refuses : (r ≡ 0 → ⊥) → Answers (sheetFor c (length before)) x r before before
   sheet-refuses h = refuses (sheet-by c (length before)) (stands .counts-for) first h
 
-  pub sheet-answered : r ≡ 0 → {above below : ℕ} {marks : Marks} {shares after : List ℕ} → SolvedIn a c marks shares above below
-      → SheetWritten (a .constraints) shares before after → Answers (sheetFor c (length before)) x 0 before after
-  sheet-answered z {above} {below} {marks} {shares} solved written =
+  pub sheet-answered : r ≡ 0 → {top : Solution} {after : List ℕ} → SolvedIn a c top
+      → SheetWritten (a .constraints) (top .shares) before after → Answers (sheetFor c (length before)) x 0 before after
+  sheet-answered z {top} solved written =
       answers (sheet-by c (length before)) (stands .counts-for) first z (answered (written .bytes))
       (record {
         bytes = written .bytes;
         long = written .long ∙ ap sheetSize (sym (stands .counts-for .accepted-as (first .clean z) .constraints-are));
         sound =
             subst (λ (g : Net). Sound g c (sheetIn (written .bytes))) (sym net-is)
-            (sound-same (netHeld a) (sharesIn shares) (sheetIn (written .bytes)) (λ i e l. sym (written .shares-are i e l)) c (solved .sound));
+            (sound-same (netHeld a) (sharesIn (top .shares)) (sheetIn (written .bytes)) (λ i e l. sym (written .shares-are i e l)) c (solved .sound));
         top =
             subst (λ (g : Net). Top g c (claim g c (sheetIn (written .bytes)))) (sym net-is)
-            (subst (λ (t : ℤ). Top (netHeld a) c t) shown (answer-top (netHeld a) c (subℕ above below) (members (marks .objects)) (solved .answer)));
+            (subst (λ (t : ℤ). Top (netHeld a) c t) shown (answer-top (netHeld a) c density (members (top .marks .objects)) (solved .answer)));
         is = refl;
       })
       (written .after-is)
@@ -176,9 +197,12 @@ module _ {x : Reading} {a : NetArrays} (stands : NetFor x a) {c : ℕ} {before :
       net-is : weighed (stands .counts-for .accepted-as (first .clean z) .drawing) ≡ netHeld a
       net-is = stands .net-is (first .clean z)
 
-      shown : subℕ above below ≡ claim (netHeld a) c (sheetIn (written .bytes))
+      density : ℤ
+      density = subℕ (top .above) (top .below)
+
+      shown : density ≡ claim (netHeld a) c (sheetIn (written .bytes))
       shown =
-          sym (solved .claims) ∙ claim-same (netHeld a) (sharesIn shares) (sheetIn (written .bytes)) (λ i e l. sym (written .shares-are i e l)) c
+          sym (solved .claims) ∙ claim-same (netHeld a) (sharesIn (top .shares)) (sheetIn (written .bytes)) (λ i e l. sym (written .shares-are i e l)) c
 
 -- ---- the check
 

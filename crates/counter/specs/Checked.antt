@@ -10,14 +10,14 @@ use Rattle.density.specs.Net.{Net}
 use Rattle.density.specs.Sheet.{Sheet, shares, gets, Sound, claim}
 use Rattle.limits.specs.Limits.{mostObjects, mostConstraints, mostWeight}
 use Rattle.routes.specs.At.{at}
-use Rattle.routes.specs.Arrays.{netIn, Fair}
+use Rattle.routes.specs.Arrays.{netIn}
 use Rattle.counter.specs.declared.net.NetArrays.{NetArrays}
-use Rattle.counter.specs.NetFor.{netHeld}
+use Rattle.counter.specs.NetFor.{netHeld, Countable}
 use Rattle.counter.specs.Sheet.{sheetSize, sheetIn}
 
--- a fair net, one of its constraints, and the bytes of a sheet
+-- a net that can be counted, one of its constraints, and the bytes of a sheet
 pub record Checking (a : NetArrays) (c : ℕ) (sheet : List ℕ) : Type 0 where
-  pub fair : Fair (a .objects) (a .constraints) (a .ends) (a .weights) (a .takes)
+  pub countable : Countable a
   pub is : c < a .constraints
   pub long : sheetSize (a .constraints) ≤ length sheet
 
@@ -50,6 +50,8 @@ pub record AddedUp (d : Net) (s : Sheet) (e total given : ℕ) (load : List ℕ)
 pub record Tallied (m : ℕ) (ends takes sheet : List ℕ) (fits : Bool) (total given : ℕ) (load : List ℕ) : Type 0 where
   pub added : fits ≡ true → AddedUp (constraintsOf m ends takes) (sheetIn sheet) m total given load
   pub else : fits ≡ false → ((e : ℕ) → e < m → shares (sheetIn sheet) e ≤ at takes e) → ⊥
+  pub total-low : total ≤ mostWeight * mostConstraints
+  pub given-low : given ≤ mostWeight * mostConstraints
 
 pub record HasRoom (n : ℕ) (load weights : List ℕ) (r : Bool) : Type 0 where
   pub room : r ≡ true → (v : ℕ) → v < n → at load v ≤ at weights v

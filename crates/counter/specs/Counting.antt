@@ -1,11 +1,10 @@
 -- What counting asks of a net, and what it answers. Assumes nothing.
 use mathlib.Core.Path.{_≡_}
 use mathlib.Core.Bool.{true, false}
-use mathlib.Core.List.{List}
 use Prim.Native.Nat.{ℕ, _<_}
 use lib.IntN.{ℤ}
 use Rattle.density.specs.Top.{NoneAt, LowestAbove}
-use Rattle.routes.specs.declared.search.Marks.{Marks}
+use Rattle.routes.specs.declared.answer.Solution.{Solution}
 use Rattle.routes.specs.Solved.{Solved}
 use Rattle.counter.specs.declared.net.NetArrays.{NetArrays}
 use Rattle.counter.specs.declared.block.Block.{Block}
@@ -19,16 +18,19 @@ pub record OneOf (a : NetArrays) (c : ℕ) : Type 0 where
   pub is : c < a .constraints
 
 -- top density, above less below, answer set and sheet of constraint c of the net
-abbrev pub SolvedIn : NetArrays → ℕ → Marks → List ℕ → ℕ → ℕ → Type 0
-SolvedIn a c marks shares above below =
-    Solved (a .objects) (a .constraints) c (a .ends) (a .weights) (a .takes) (marks .objects) shares above below
+abbrev pub SolvedIn : NetArrays → ℕ → Solution → Type 0
+SolvedIn a c top =
+    Solved (a .objects) (a .constraints) c (a .ends) (a .weights) (a .takes) (top .marks .objects) (top .shares) (top .above) (top .below)
+
+-- the block of constraint c, of which the answer is known
+abbrev pub blockFrom : ℕ → Solution → Block
+blockFrom c top = record { constraint = c; above = top .above; below = top .below; marks = top .marks }
 
 -- the block of constraint c of the net
 pub record BlockIn (a : NetArrays) (c : ℕ) (b : Block) : Type 0 where
-  pub is : c < a .constraints
-  pub constraint-is : b .constraint ≡ c
-  pub shares : List ℕ
-  pub solved : SolvedIn a c (b .marks) shares (b .above) (b .below)
+  pub top : Solution
+  pub solved : SolvedIn a c top
+  pub block-is : b ≡ blockFrom c top
 
 -- all of the net at K
 pub record AllAt (a : NetArrays) (k : ℤ) : Type 0 where

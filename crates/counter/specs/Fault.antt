@@ -1,8 +1,8 @@
 -- What is wrong with what is asked, and the first fault of a call. 01, 'What is turned away, in order': ".. Then 9, 10, 11, 12." A fault is
 -- its number there, and 0 is none; `rest` is what is judged behind it. Assumes nothing.
 use mathlib.Core.Path.{_≡_}
-use mathlib.Core.Bool.{not}
-use Prim.Native.Nat.{ℕ}
+use mathlib.Core.Bool.{true, not}
+use Prim.Native.Nat.{ℕ, _≤_, _<_}
 use lib.Dec.{eqb, leb, ltb}
 use lib.IntN.{ℤ}
 use Rattle.drawing.specs.Choice.{pick}
@@ -30,3 +30,13 @@ pub record FirstOf (code asked : ℕ) (Fine : Type 0) (r : ℕ) : Type 0 where
   pub is : r ≡ callFault code asked
   pub clean : r ≡ 0 → code ≡ 0
   pub fine : r ≡ 0 → Fine
+
+-- c is the number of one of m constraints, and there is room
+pub record Named (m c need room : ℕ) : Type 0 where
+  pub names : c < m
+  pub room-for : need ≤ room
+
+-- K is in its range, and there is room
+pub record Ranged (k : ℤ) (need room : ℕ) : Type 0 where
+  pub in-range : inRange k ≡ true
+  pub room-for : need ≤ room

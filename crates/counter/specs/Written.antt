@@ -14,9 +14,8 @@ use Rattle.counter.specs.Block.{block}
 use Rattle.counter.specs.Sheet.{sheetSize, sheetIn}
 use Rattle.counter.specs.Outcome.{over}
 
--- a block whose numbers fit their bytes, and its bytes
+-- a block whose density fits its bytes, and the bytes of a block
 pub record Writable (b : Block) : Type 0 where
-  pub constraint : b .constraint < 65536
   pub above : b .above < 32768
   pub below : b .below < 32768
 

@@ -40,7 +40,7 @@ pub struct Finding {
 
 // Writes a number in two bytes, the lower first.
 pub fn put_two(buffer: &mut [u8], at: usize, n: usize)
-    requires { ⌜ (at + 1 < length (now buffer)) × (n < 65536) ⌝ }
+    requires { ⌜ at + 1 < length (now buffer) ⌝ }
     ensures { λ _. ⌜ now (buffer .exit) ≡ set (set (now (buffer .entry)) at (n % 256)) (at + 1) (n / 256 % 256) ⌝ }
 {
     buffer[at] = (n % 256) as u8;
@@ -49,7 +49,7 @@ pub fn put_two(buffer: &mut [u8], at: usize, n: usize)
 
 // Writes two numbers at the front.
 pub fn put_numbers(x: usize, y: usize, buffer: &mut [u8])
-    requires { ⌜ (numbersSize ≤ length (now buffer)) × (x < 65536) × (y < 65536) ⌝ }
+    requires { ⌜ numbersSize ≤ length (now buffer) ⌝ }
     ensures { λ _. ⌜ now (buffer .exit) ≡ over (two x ++ two y) (now (buffer .entry)) ⌝ }
 {
     put_two(buffer, 0, x);
@@ -59,7 +59,7 @@ pub fn put_numbers(x: usize, y: usize, buffer: &mut [u8])
 // A density, above less below, as 16-bit two's complement.
 fn two_complement(above: usize, below: usize) -> usize
     requires { ⌜ (above < 32768) × (below < 32768) ⌝ }
-    ensures { λ r. ⌜ (r ≡ complement (subℕ above below)) × (r < 65536) ⌝ }
+    ensures { λ r. ⌜ r ≡ complement (subℕ above below) ⌝ }
 {
     (above + 65536 - below) % 65536
 }

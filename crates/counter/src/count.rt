@@ -8,12 +8,13 @@ use routes::answer::Solution;
 use routes::answer::answer;
 use routes::answer::base;
 use routes::answer::nothing;
-ghost use Rattle.counter.specs.Counting.{OneOf, SolvedIn, BlockIn, AllAt, Sought};
+ghost use mathlib.Core.Path.{_≡_};
+ghost use Rattle.counter.specs.Counting.{OneOf, SolvedIn, blockFrom, AllAt, Sought};
 
 // Top density, answer set and sheet of constraint c.
 pub fn one(net: NetArrays, c: usize) -> Solution
     requires { ⌜ OneOf net c ⌝ }
-    ensures { λ r. ⌜ SolvedIn net c (r .marks) (r .shares) (r .above) (r .below) ⌝ }
+    ensures { λ r. ⌜ SolvedIn net c r ⌝ }
 {
     let ends = net.ends;
     let weights = net.weights;
@@ -30,12 +31,10 @@ pub fn one(net: NetArrays, c: usize) -> Solution
     )
 }
 
-// The block of constraint c.
-pub fn block_of(net: NetArrays, c: usize) -> Block
-    requires { ⌜ OneOf net c ⌝ }
-    ensures { λ r. ⌜ BlockIn net c r ⌝ }
+// The block of constraint c, of which the answer is known.
+pub fn block_of(c: usize, top: Solution) -> Block
+    ensures { λ r. ⌜ r ≡ blockFrom c top ⌝ }
 {
-    let top = one(net, c);
     let marks = top.marks;
     Block {
         constraint: c,
@@ -62,13 +61,7 @@ pub fn lowest_above(net: NetArrays, k: i32) -> Finding
     while lowest < m {
         let top = answer(n, m, lowest, &ends, &weights, &takes, from);
         if is_above(top.above, top.below, bound) {
-            let marks = top.marks;
-            let block = Block {
-                constraint: lowest,
-                above: top.above,
-                below: top.below,
-                marks,
-            };
+            let block = block_of(lowest, top);
             return Finding { found: true, block };
         }
         lowest += 1;

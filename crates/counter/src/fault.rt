@@ -1,11 +1,8 @@
 // The first fault of a call: that of its drawing, then those of what is asked, in their order; 0 for none. `code` is the drawing's.
 use crate::range::LEAST;
 use crate::range::MOST;
-ghost use mathlib.Core.Path.{_≡_};
-ghost use mathlib.Core.Bool.{true};
 ghost use Prim.Native.Nat.{_≤_, _<_};
-ghost use Rattle.counter.specs.Range.{inRange};
-ghost use Rattle.counter.specs.Fault.{roomFault, numberFault, rangeFault, FirstOf};
+ghost use Rattle.counter.specs.Fault.{roomFault, numberFault, rangeFault, FirstOf, Named, Ranged};
 
 const RANGE: u32 = 10;
 
@@ -28,7 +25,7 @@ pub fn room_fault(code: u32, room: usize, need: usize) -> u32
 
 // Of a call about constraint c of m that needs room.
 pub fn number_fault(code: u32, m: usize, c: usize, room: usize, need: usize) -> u32
-    ensures { λ r. ⌜ FirstOf code (numberFault m c (roomFault room need)) ((c < m) × (need ≤ room)) r ⌝ }
+    ensures { λ r. ⌜ FirstOf code (numberFault m c (roomFault room need)) (Named m c need room) r ⌝ }
 {
     if code != 0 {
         return code;
@@ -44,7 +41,7 @@ pub fn number_fault(code: u32, m: usize, c: usize, room: usize, need: usize) -> 
 
 // Of a call at K that needs room.
 pub fn range_fault(code: u32, k: i32, room: usize, need: usize) -> u32
-    ensures { λ r. ⌜ FirstOf code (rangeFault k (roomFault room need)) ((inRange k ≡ true) × (need ≤ room)) r ⌝ }
+    ensures { λ r. ⌜ FirstOf code (rangeFault k (roomFault room need)) (Ranged k need room) r ⌝ }
 {
     if code != 0 {
         return code;

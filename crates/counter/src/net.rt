@@ -1,5 +1,10 @@
 // The one door from bytes to a question: read, or read and weighed.
 use drawing::Counts;
+use drawing::blank::no_constraints;
+use drawing::blank::no_ends;
+use drawing::blank::no_objects;
+use drawing::reader::fill;
+use drawing::weigh;
 use limits::CONSTRAINTS;
 use limits::ENDS;
 use limits::OBJECTS;
@@ -33,15 +38,34 @@ pub fn counts_of(drawing: &[u8]) -> Counts
 pub fn net_of(drawing: &[u8]) -> NetArrays
     ensures { λ r. ⌜ NetFor (read (now (drawing .entry))) r ⌝ }
 {
-    let entries = drawing::read(drawing);
-    let in_force = drawing::weigh(entries);
-    let ends = entries.ends;
+    let mut ends = no_ends();
+    let mut object_kinds = no_objects();
+    let mut object_stated = no_objects();
+    let mut constraint_kinds = no_constraints();
+    let mut constraint_stated = no_constraints();
+    let counts = fill(
+        drawing,
+        &mut ends,
+        &mut object_kinds,
+        &mut object_stated,
+        &mut constraint_kinds,
+        &mut constraint_stated,
+    );
+    let in_force = weigh(
+        counts.objects,
+        counts.constraints,
+        &ends,
+        &object_kinds,
+        &object_stated,
+        &constraint_kinds,
+        &constraint_stated,
+    );
     let weights = in_force.objects;
     let takes = in_force.constraints;
     NetArrays {
-        code: entries.code,
-        objects: entries.objects,
-        constraints: entries.constraints,
+        code: counts.code,
+        objects: counts.objects,
+        constraints: counts.constraints,
         ends,
         weights,
         takes,

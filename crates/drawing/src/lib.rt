@@ -94,25 +94,40 @@ pub struct Weights {
     pub constraints: [u8; CONSTRAINTS],
 }
 
-// Weighs a drawing that was read.
-pub fn weigh(e: Entries) -> Weights
-    requires { ⌜ Tidy (e .objects) (e .constraints) (arraysOf e) ⌝ }
-    ensures { λ r. ⌜ WeightsIn (arraysOf e) (e .objects) (e .constraints) (r .objects) (r .constraints) ⌝ }
+// Weighs the n objects and m constraints that the arrays of a drawing hold.
+pub fn weigh(
+    n: usize,
+    m: usize,
+    ends: &[u16; ENDS],
+    object_kinds: &[u8; OBJECTS],
+    object_stated: &[u8; OBJECTS],
+    constraint_kinds: &[u8; CONSTRAINTS],
+    constraint_stated: &[u8; CONSTRAINTS],
+) -> Weights
+    requires { ⌜ Tidy n m (record {
+      ends = now ends;
+      objectKinds = now «object_kinds»;
+      objectStated = now «object_stated»;
+      constraintKinds = now «constraint_kinds»;
+      constraintStated = now «constraint_stated»;
+    }) ⌝ }
+    ensures { λ r. ⌜ WeightsIn (record {
+      ends = now (ends .entry);
+      objectKinds = now («object_kinds» .entry);
+      objectStated = now («object_stated» .entry);
+      constraintKinds = now («constraint_kinds» .entry);
+      constraintStated = now («constraint_stated» .entry);
+    }) n m (r .objects) (r .constraints) ⌝ }
 {
-    let ends = e.ends;
-    let object_kinds = e.object_kinds;
-    let object_stated = e.object_stated;
-    let constraint_kinds = e.constraint_kinds;
-    let constraint_stated = e.constraint_stated;
     let mut objects = no_objects();
     let mut constraints = no_constraints();
-    weigh_objects(e.objects, &object_kinds, &object_stated, &mut objects);
+    weigh_objects(n, object_kinds, object_stated, &mut objects);
     weigh_constraints(
-        e.constraints,
-        &ends,
-        &object_kinds,
-        &constraint_kinds,
-        &constraint_stated,
+        m,
+        ends,
+        object_kinds,
+        constraint_kinds,
+        constraint_stated,
         &mut constraints,
     );
     Weights {

@@ -63,17 +63,6 @@ none-added m ends takes sheet =
       low = omega arith;
     }
 
-pub all-added : {m : ℕ} {ends takes sheet : List ℕ} {e total given : ℕ} {load : List ℕ} → Tallying m ends takes sheet e total given load → m ≤ e
-    → Tallied m ends takes sheet true total given load
-all-added {m} {ends} {takes} {sheet} {e} {total} {given} {load} t over =
-    record {
-      added = λ _. subst (λ (k : ℕ). AddedUp (constraintsOf m ends takes) (sheetIn sheet) k total given load) all (t .added);
-      else = λ f. absurd (true≢false f);
-    }
-  where
-    all : e ≡ m
-    all = omega (arith, t .low)
-
 -- what is added up stays small
 module _ {d : Net} {s : Sheet} {e total given : ℕ} {load : List ℕ} (added : AddedUp d s e total given load) (light : (i : ℕ) → i < e → d .takes i ≤ mostWeight) where
   pub total-small : total ≤ mostWeight * e
@@ -88,19 +77,35 @@ module _ {d : Net} {s : Sheet} {e total given : ℕ} {load : List ℕ} (added : 
       gets-le : (i : ℕ) → gets d s v i ≤ shares s i
       gets-le i = omega (arith, counted-le (eqb (d .end first i) v) (s first i), counted-le (eqb (d .end second i) v) (s second i))
 
+module _ {m : ℕ} {ends takes sheet : List ℕ} (pre : Adding m ends takes sheet) {e total given : ℕ} {load : List ℕ}
+    (t : Tallying m ends takes sheet e total given load) where
+  light : (i : ℕ) → i < e → at takes i ≤ mostWeight
+  light i h = pre .light i (omega (arith, t .low))
+
+  pub sums-low : (total ≤ mostWeight * mostConstraints) × (given ≤ mostWeight * mostConstraints)
+  sums-low =
+      (omega (arith, t .low, pre .few, total-small (t .added) light), omega (arith, t .low, pre .few, given-small (t .added) light))
+
+  load-low : (v : ℕ) → v < mostObjects → at load v ≤ mostWeight * mostConstraints
+  load-low v h = omega (arith, t .low, pre .few, load-small (t .added) light v h)
+
+  -- all are added up
+  pub all-added : m ≤ e → Tallied m ends takes sheet true total given load
+  all-added over =
+      record {
+        added = λ _. subst (λ (k : ℕ). AddedUp (constraintsOf m ends takes) (sheetIn sheet) k total given load) all (t .added);
+        else = λ f. absurd (true≢false f);
+        total-low = sums-low .0;
+        given-low = sums-low .1;
+      }
+    where
+      all : e ≡ m
+      all = omega (arith, t .low)
+
 -- ---- one turn: constraint e, with its shares x and y and its weight
 
 module _ {m : ℕ} {ends takes sheet : List ℕ} (pre : Adding m ends takes sheet) {e total given : ℕ} {load : List ℕ}
     (t : Tallying m ends takes sheet e total given load) (l : e < m) where
-  light : (i : ℕ) → i < e → at takes i ≤ mostWeight
-  light i h = pre .light i (omega arith)
-
-  pub sums-low : (total ≤ mostWeight * mostConstraints) × (given ≤ mostWeight * mostConstraints)
-  sums-low = (omega (arith, pre .few, total-small (t .added) light), omega (arith, pre .few, given-small (t .added) light))
-
-  load-low : (v : ℕ) → v < mostObjects → at load v ≤ mostWeight * mostConstraints
-  load-low v h = omega (arith, pre .few, load-small (t .added) light v h)
-
   end-low : (i v : ℕ) → i < 2 * m → v ≡ at ends i → v < mostObjects
   end-low i v h is = omega (arith, pre .named i h)
 
@@ -108,7 +113,13 @@ module _ {m : ℕ} {ends takes sheet : List ℕ} (pre : Adding m ends takes shee
       (first-is : first ≡ x) (second-is : second ≡ y) where
     -- the two shares do not fit
     pub not-fitting : weight < first + second → Tallied m ends takes sheet false total given load
-    not-fitting over = record { added = λ f. absurd (false≢true f); else = λ _ all. omega (arith, all e l) }
+    not-fitting over =
+        record {
+          added = λ f. absurd (false≢true f);
+          else = λ _ all. omega (arith, all e l);
+          total-low = sums-low pre t .0;
+          given-low = sums-low pre t .1;
+        }
 
     -- the two shares fit, and the two ends a and b receive them
     module _ (fits : first + second ≤ weight) {a : ℕ} (a-is : a ≡ at ends (2 * e)) where
@@ -116,7 +127,7 @@ module _ {m : ℕ} {ends takes sheet : List ℕ} (pre : Adding m ends takes shee
       a-low = end-low (2 * e) a (omega arith) a-is
 
       pub first-fits : (a < mostObjects) × (at load a + x < 65536)
-      first-fits = (a-low, omega (arith, load-low a a-low, pre .light e l))
+      first-fits = (a-low, omega (arith, load-low pre t a a-low, pre .light e l))
 
       module _ {next : List ℕ} (next-is : next ≡ set load a (at load a + x)) {b : ℕ} (b-is : b ≡ at ends (2 * e + 1)) where
         next-at : (v : ℕ) → at next v ≡ at load v + counted (eqb a v) x
@@ -126,7 +137,7 @@ module _ {m : ℕ} {ends takes sheet : List ℕ} (pre : Adding m ends takes shee
         b-low = end-low (2 * e + 1) b (omega arith) b-is
 
         pub second-fits : (b < mostObjects) × (at next b + y < 65536)
-        second-fits = (b-low, omega (arith, next-at b, counted-le (eqb a b) x, load-low b b-low, pre .light e l))
+        second-fits = (b-low, omega (arith, next-at b, counted-le (eqb a b) x, load-low pre t b b-low, pre .light e l))
 
         next-long : length next ≡ mostObjects
         next-long = ap length next-is ∙ simp length-set (t .long)

@@ -11,13 +11,12 @@ use lib.IntN.{ℤ, subℕ}
 use Rattle.density.specs.Net.{Net, Side, first, second}
 use Rattle.density.specs.Sheet.{received, Sound, total, given, claim, endsWeigh}
 use Rattle.density.proofs.Shares.{claim-is}
-use Rattle.limits.specs.Limits.{mostObjects, mostConstraints, mostWeight}
+use Rattle.limits.specs.Limits.{mostObjects}
 use Rattle.routes.specs.At.{at}
 use Rattle.counter.specs.declared.net.NetArrays.{NetArrays}
 use Rattle.counter.specs.NetFor.{netHeld}
 use Rattle.counter.specs.Sheet.{sheetIn}
-use Rattle.counter.specs.Checked.{Adding, AddedUp, Tallied, HasRoom, Ending, Bare, Equals, Checking, Checked, constraintsOf}
-use Rattle.counter.proofs.checker.AddingUp.{total-small, given-small}
+use Rattle.counter.specs.Checked.{Adding, AddedUp, Tallied, HasRoom, Ending, Bare, EndsWeigh, Equals, Checking, Checked, constraintsOf}
 
 -- ---- no object receives more than its weight: one after the other
 
@@ -61,18 +60,18 @@ module _ {a : NetArrays} {c : ℕ} {sheet : List ℕ} (pre : Checking a c sheet)
   pub adding : Adding (a .constraints) (a .ends) (a .takes) sheet
   adding =
       record {
-        few = pre .fair .few-constraints;
-        named = λ i l. omega (arith, pre .fair .named i l, pre .fair .few-objects);
-        light = pre .fair .light-constraints;
+        few = pre .countable .fair .few-constraints;
+        named = λ i l. omega (arith, pre .countable .fair .named i l, pre .countable .fair .few-objects);
+        light = pre .countable .fair .light-constraints;
         long = pre .long;
       }
 
   pub ending : Ending c (a .ends)
   ending =
       record {
-        low = omega (arith, pre .is, pre .fair .few-constraints);
-        first = omega (arith, pre .is, pre .fair .named (2 * c) (omega (arith, pre .is)), pre .fair .few-objects);
-        second = omega (arith, pre .is, pre .fair .named (2 * c + 1) (omega (arith, pre .is)), pre .fair .few-objects);
+        low = omega (arith, pre .is, pre .countable .fair .few-constraints);
+        first = omega (arith, pre .is, pre .countable .fair .named (2 * c) (omega (arith, pre .is)), pre .countable .fair .few-objects);
+        second = omega (arith, pre .is, pre .countable .fair .named (2 * c + 1) (omega (arith, pre .is)), pre .countable .fair .few-objects);
       }
 
   abbrev d : Net
@@ -86,19 +85,16 @@ module _ {a : NetArrays} {c : ℕ} {sheet : List ℕ} (pre : Checking a c sheet)
   unfit t e = refuted (λ s. t .else e (s .fits))
 
   -- every constraint fits, and they add up so
-  module _ {whole shared : ℕ} {load : List ℕ} (added : AddedUp (constraintsOf (a .constraints) (a .ends) (a .takes)) (sheetIn sheet) (a .constraints) whole shared load) where
-    pub small : (whole ≤ mostWeight * mostConstraints) × (shared ≤ mostWeight * mostConstraints)
-    small = (
-      omega (arith, pre .fair .few-constraints, total-small added (pre .fair .light-constraints)),
-      omega (arith, pre .fair .few-constraints, given-small added (pre .fair .light-constraints)),
-    )
+  module _ {fits : Bool} {whole shared : ℕ} {load : List ℕ} (t : Tallied (a .constraints) (a .ends) (a .takes) sheet fits whole shared load) (all-fit : fits ≡ true) where
+    added : AddedUp (constraintsOf (a .constraints) (a .ends) (a .takes)) (sheetIn sheet) (a .constraints) whole shared load
+    added = t .added all-fit
 
     received-is : (v : ℕ) → v < mostObjects → received d (sheetIn sheet) v ≡ at load v
     unfolding received
     received-is v l = sym (added .load-is v l)
 
     received-here : (v : ℕ) → v < a .objects → received d (sheetIn sheet) v ≡ at load v
-    received-here v l = received-is v (omega (arith, pre .fair .few-objects))
+    received-here v l = received-is v (omega (arith, pre .countable .fair .few-objects))
 
     first-is : received d (sheetIn sheet) (at (a .ends) (2 * c)) ≡ at load (at (a .ends) (2 * c))
     first-is = received-is (at (a .ends) (2 * c)) (ending .first)
@@ -132,10 +128,10 @@ module _ {a : NetArrays} {c : ℕ} {sheet : List ℕ} (pre : Checking a c sheet)
         ∙ ap (λ (x : ℕ). subℕ whole (shared + x)) (sym e)
 
     pub decided : {claimed z : ℤ} {weigh : ℕ} {r s t : Bool} → HasRoom (a .objects) load (a .weights) r → r ≡ true → Bare c (a .ends) load s → s ≡ true
-        → weigh ≡ endsWeigh d c → z ≡ claimed → Equals whole (shared + weigh) z t → Checked a c sheet claimed t
-    decided room r-is bare s-is weigh-is z-is equals =
+        → EndsWeigh c (a .ends) (a .weights) weigh → Equals whole (shared + weigh) z t → z ≡ claimed → Checked a c sheet claimed t
+    decided room r-is bare s-is weighs equals z-is =
         record {
           sound = λ _. sound (room .room r-is) (bare .first s-is) (bare .second s-is);
-          claims = λ e. claim-shown weigh-is ∙ equals .equal e ∙ z-is;
-          else = λ e _ shown. equals .else e (sym (claim-shown weigh-is) ∙ shown ∙ sym z-is);
+          claims = λ e. claim-shown (weighs .is) ∙ equals .equal e ∙ z-is;
+          else = λ e _ shown. equals .else e (sym (claim-shown (weighs .is)) ∙ shown ∙ sym z-is);
         }

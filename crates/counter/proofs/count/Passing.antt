@@ -1,7 +1,6 @@
 -- Going through the constraints in order: those passed have no top density above K. Assumes nothing.
-use mathlib.Core.Path.{_≡_, refl, subst}
+use mathlib.Core.Path.{_≡_, refl, sym, subst}
 use mathlib.Core.Bool.{true, false, true≢false, false≢true}
-use mathlib.Core.List.{List}
 use Prim.Native.Nat.{ℕ, _+_, _<_}
 use native.Mathlib.Omega.{arith}
 use lib.IntN.{ℤ, subℕ}
@@ -9,32 +8,35 @@ use lib.Signed.{_≤ℤ_, _<ℤ_}
 use Rattle.density.specs.Net.{Net}
 use Rattle.density.specs.Top.{Top, NoneAt}
 use Rattle.density.proofs.OneAnswer.{NoneBelow, answer-top, lowest-so, none-up-to}
-use Rattle.routes.specs.declared.search.Marks.{Marks}
+use Rattle.routes.specs.declared.answer.Solution.{Solution}
 use Rattle.routes.specs.Arrays.{members}
 use Rattle.counter.specs.declared.net.NetArrays.{NetArrays}
 use Rattle.counter.specs.declared.block.Block.{Block}
 use Rattle.counter.specs.NetFor.{netHeld}
-use Rattle.counter.specs.Counting.{SolvedIn, LowestIn, Sought}
+use Rattle.counter.specs.Counting.{SolvedIn, blockFrom, LowestIn, Sought}
 
-module _ (a : NetArrays) (k : ℤ) (c above below : ℕ) (marks : Marks) (shares : List ℕ)
-    (none : NoneBelow (netHeld a) k c) (solved : SolvedIn a c marks shares above below) where
+module _ (a : NetArrays) (k : ℤ) (c : ℕ) (top : Solution) (none : NoneBelow (netHeld a) k c) (solved : SolvedIn a c top) where
   abbrev d : Net
   d = netHeld a
 
-  top : Top d c (subℕ above below)
-  top = answer-top d c (subℕ above below) (members (marks .objects)) (solved .answer)
+  abbrev density : ℤ
+  density = subℕ (top .above) (top .below)
+
+  density-top : Top d c density
+  density-top = answer-top d c density (members (top .marks .objects)) (solved .answer)
 
   -- c is not above K either
-  pub one-more : subℕ above below ≤ℤ k → NoneBelow d k (c + 1)
-  one-more h e t l q = none-up-to d k c (subℕ above below) top h none e t (omega arith) q
+  pub one-more : density ≤ℤ k → NoneBelow d k (c + 1)
+  one-more h e t l q = none-up-to d k c density density-top h none e t (omega arith) q
 
   -- c is above K, so it is the lowest
-  pub found-here : c < a .constraints → k <ℤ subℕ above below → LowestIn a k (record { constraint = c; above = above; below = below; marks = marks })
-  found-here l h =
-      record {
-        lowest = lowest-so d k c (subℕ above below) l top h none;
-        block-in = record { is = l; constraint-is = refl; shares = shares; solved = solved };
-      }
+  pub found-here : c < a .constraints → k <ℤ density → {b : Block} → b ≡ blockFrom c top → LowestIn a k b
+  found-here l h is =
+      subst (LowestIn a k) (sym is)
+      (record {
+        lowest = lowest-so d k c density l density-top h none;
+        block-in = record { top = top; solved = solved; block-is = refl };
+      })
 
 -- what the search answers at K, which the code has as y
 module _ {a : NetArrays} {y k : ℤ} (same : y ≡ k) {b : Block} where

@@ -17,7 +17,7 @@ weigh-constraints-requires : tie.Need-weigh-constraints-requires
 weigh-constraints-requires c κs = search needs
 
 returns : tie.Need-returns
-returns c = weights-in _ _ _ (search) _ _ (c .before .before .before .before .before .before .weigh-objects .ensures) (c .weigh-constraints .ensures)
+returns c = search (weights-in, needs)
 
 pub weigh-spec : {M : Type 1} → statement M
 weigh-spec =

@@ -1,7 +1,7 @@
 -- `say_lines` meets its contract. Assumes nothing.
 use Prim.Native.Nat.{_-_, _≤_}
 use native.Mathlib.Omega.{arith}
-use lib.Dec.{lit<}
+use Rattle.counter.proofs.Nets.{solving}
 use borrow.Author.Needs.{needs}
 use Rattle.report.proofs.say_lines.Statement.{statement}
 use Rattle.report.proofs.say_lines.Tie as tie
@@ -13,24 +13,16 @@ abbrev μ-loop : tie.MeasureT-loop
 μ-loop n m ends weights takes from lowest₀ c₀ t13 t14 lowest c = m - c
 
 base-requires : tie.Need-base-requires Inv-loop μ-loop
-base-requires c κs =
-    let pre = c .before .before .before .before .before .before .pre in
-    (pre .fair)
+base-requires c κs = search needs
 
 loop-holds : tie.Need-loop-holds Inv-loop μ-loop
 loop-holds c = omega arith
 
 answer-requires : tie.Need-answer-requires Inv-loop μ-loop
-answer-requires c κs =
-    let pre = c .before .before .before .before .before .before .before .before .before .before .before .before .pre in
-    let loop-test = c .before .before .before .loop-test in
-    let loop = c .before .before .before .before .loop in
-    let base = c .before .before .before .before .before .base in
-    record { fair = (pre .fair); is = (loop-test .taken); some = (pre .heavy) (loop .c) (loop-test .taken); spread = (base .ensures) }
+answer-requires c κs = search (solving, needs)
 
 is-above-requires : tie.Need-is-above-requires Inv-loop μ-loop
-is-above-requires c κs =
-    (omega (arith, (c .before .answer .ensures .above-small)), omega (arith, (c .before .answer .ensures .below-small)), lit< tt)
+is-above-requires c κs = search needs
 
 say-number-requires : tie.Need-say-number-requires Inv-loop μ-loop
 say-number-requires c κs = search needs
@@ -46,8 +38,9 @@ say-density-requires c κs = search needs
 
 say-members-requires : tie.Need-say-members-requires Inv-loop μ-loop
 say-members-requires c κs =
-    let pre = c .before .before .before .before .before .before .before .before .before .before .before .before .before .before .before .before .before .before .before .before .before .pre in
-    (pre .fair .few-objects)
+    let answered = c .before .before .before .before .before .before .before .before in
+    let start = answered .before .before .before .before .before .before .before .before .before .before .before .before .before in
+    start .pre .fair .few-objects
 
 slice-aggregate-say-2 : tie.Need-slice-aggregate-say-2 Inv-loop μ-loop
 slice-aggregate-say-2 c = search needs
@@ -56,19 +49,13 @@ say-requires-2 : tie.Need-say-requires-2 Inv-loop μ-loop
 say-requires-2 c κs = search needs
 
 add-c : tie.Need-add-c Inv-loop μ-loop
-add-c c =
-    let loop-test = c .before .before .before .before .before .before .before .before .before .before .before .before .before .before .before .loop-test in
-    omega (arith, (loop-test .taken))
+add-c c = search needs
 
 loop-less : tie.Need-loop-less Inv-loop μ-loop
-loop-less c =
-    let loop-test = c .before .before .before .before .before .before .before .before .before .before .before .before .before .before .before .loop-test in
-    omega (arith, (loop-test .taken))
+loop-less c = search needs
 
 loop-again : tie.Need-loop-again Inv-loop μ-loop
-loop-again c =
-    let loop-test = c .before .before .before .before .before .before .before .before .before .before .before .before .before .before .before .loop-test in
-    omega (arith, (loop-test .taken))
+loop-again c = search needs
 
 returns : tie.Need-returns Inv-loop μ-loop
 returns c = search needs

@@ -36,14 +36,13 @@ same-length c = search needs
 returns : tie.Need-returns
 unfolding block
 returns c =
-    let args = c .before .before .before .before .before .before .before .before .before .before .before .before .before .args in
-    let two-complement = c .before .before .before .before .before .before .before .before .before .two-complement in
-    let pre = c .before .before .before .before .before .before .before .before .before .before .before .before .before .pre in
-    let put-numbers = c .before .before .before .before .before .before .before .put-numbers in
-    let put-set = c .before .before .put-set in
+    let numbered = c .before .before .before .before .before .before .before in
+    let start = numbered .before .before .before .before .before .before in
+    let args = start .args in
+    let two-complement = numbered .before .before .two-complement in
     let written = setBytes mostObjects (members (args .block .marks .objects)) in
-    block-over (args .block .constraint) (two-complement .result) written (args .buffer .now) _ _ (omega (arith, (pre .1))) (put-numbers .ensures) (put-set .ensures)
-    ∙ ap (λ (t : ℕ). over (two (args .block .constraint) ++ two t ++ written) (args .buffer .now)) (two-complement .ensures .0)
+    block-over (args .block .constraint) (two-complement .result) written (args .buffer .now) _ _ (omega (arith, start .pre .1)) (numbered .put-numbers .ensures) (c .before .before .put-set .ensures)
+    ∙ ap (λ (t : ℕ). over (two (args .block .constraint) ++ two t ++ written) (args .buffer .now)) (two-complement .ensures)
 
 pub put-block-spec : {M : Type 1} → statement M
 put-block-spec =

@@ -11,7 +11,7 @@ sub-result : tie.Need-sub-result
 sub-result c = search needs
 
 returns : tie.Need-returns
-returns c = (complement-is (c .args .above) (c .args .below) (c .pre .0) (c .pre .1), search needs)
+returns c = complement-is (c .args .above) (c .args .below) (c .pre .0) (c .pre .1)
 
 pub two-complement-spec : {M : Type 1} → statement M
 two-complement-spec = tie.close (tie.spec add-result sub-result returns)

@@ -2,6 +2,7 @@
 use Prim.Native.Nat.{_-_}
 use native.Mathlib.Omega.{arith}
 use Rattle.counter.proofs.checker.AddingUp.{Tallying, none-added, all-added, sums-low, first-fits, second-fits, one-added, not-fitting}
+use borrow.Author.Needs.{needs}
 use Rattle.counter.proofs.checker.add_up.Statement.{statement}
 use Rattle.counter.proofs.checker.add_up.Tie as tie
 
@@ -12,16 +13,13 @@ abbrev μ-loop : tie.MeasureT-loop
 μ-loop m ends takes sheet total₀ given₀ load₀ e₀ total given load e = m - e
 
 loop-holds : tie.Need-loop-holds Inv-loop μ-loop
-loop-holds c =
-    none-added (c .before .args .m) (c .before .args .ends .now) (c .before .args .takes .now) (c .before .args .sheet .now)
+loop-holds c = search (none-added, needs)
 
 mul-two-at : tie.Need-mul-two-at Inv-loop μ-loop
 mul-two-at c = omega arith
 
 two-at-requires : tie.Need-two-at-requires Inv-loop μ-loop
-two-at-requires c κs =
-    let pre = c .before .before .before .pre in
-    omega (arith, (pre .long))
+two-at-requires c κs = search needs
 
 mul-two-at-2 : tie.Need-mul-two-at-2 Inv-loop μ-loop
 mul-two-at-2 c = omega arith
@@ -30,9 +28,7 @@ add-two-at : tie.Need-add-two-at Inv-loop μ-loop
 add-two-at c = omega arith
 
 two-at-requires-2 : tie.Need-two-at-requires-2 Inv-loop μ-loop
-two-at-requires-2 c κs =
-    let pre = c .before .before .before .before .pre in
-    omega (arith, (pre .long))
+two-at-requires-2 c κs = search needs
 
 two-bytes-requires : tie.Need-two-bytes-requires Inv-loop μ-loop
 two-bytes-requires c κs = tt
@@ -50,15 +46,7 @@ one-byte-requires : tie.Need-one-byte-requires Inv-loop μ-loop
 one-byte-requires c κs = tt
 
 returns : tie.Need-returns Inv-loop μ-loop
-returns c =
-    let pre = c .before .before .before .before .before .before .before .before .before .before .pre in
-    let loop = c .before .before .before .before .before .before .before .before .loop in
-    let loop-test = c .before .before .before .before .before .before .before .loop-test in
-    let two-at = c .before .before .before .before .before .before .two-at in
-    let two-at2 = c .before .before .before .before .before .two-at2 in
-    let two-bytes = c .before .before .before .before .two-bytes in
-    let two-bytes2 = c .before .before .before .two-bytes2 in
-    not-fitting pre (loop .inv) (loop-test .taken) (two-at .ensures) (two-at2 .ensures) (c .before .one-byte .ensures .0) (two-bytes .ensures .0) (two-bytes2 .ensures .0) (c .if1 .taken)
+returns c = search not-fitting
 
 mul-two-bytes : tie.Need-mul-two-bytes Inv-loop μ-loop
 mul-two-bytes c = omega arith
@@ -121,26 +109,22 @@ add-total : tie.Need-add-total Inv-loop μ-loop
 add-total c =
     let pre = c .before .before .before .before .before .before .before .before .before .before .before .before .before .before .before .before .before .before .pre in
     let loop = c .before .before .before .before .before .before .before .before .before .before .before .before .before .before .before .before .loop in
-    let loop-test = c .before .before .before .before .before .before .before .before .before .before .before .before .before .before .before .loop-test in
     let one-byte = c .before .before .before .before .before .before .before .before .before .one-byte in
-    omega (arith, sums-low pre (loop .inv) (loop-test .taken), (one-byte .ensures))
+    omega (arith, sums-low pre (loop .inv), (one-byte .ensures))
 
 add-given : tie.Need-add-given Inv-loop μ-loop
 add-given c =
     let pre = c .before .before .before .before .before .before .before .before .before .before .before .before .before .before .before .before .before .before .pre in
     let loop = c .before .before .before .before .before .before .before .before .before .before .before .before .before .before .before .before .loop in
-    let loop-test = c .before .before .before .before .before .before .before .before .before .before .before .before .before .before .before .loop-test in
     let one-byte = c .before .before .before .before .before .before .before .before .before .one-byte in
     let if1 = c .before .before .before .before .before .before .before .before .if1 in
-    omega (arith, sums-low pre (loop .inv) (loop-test .taken), (one-byte .ensures), (if1 .left))
+    omega (arith, sums-low pre (loop .inv), (one-byte .ensures), (if1 .left))
 
 add-e : tie.Need-add-e Inv-loop μ-loop
 add-e c = omega arith
 
 loop-less : tie.Need-loop-less Inv-loop μ-loop
-loop-less c =
-    let loop-test = c .before .before .before .before .before .before .before .before .before .before .before .before .before .before .before .loop-test in
-    omega (arith, (loop-test .taken))
+loop-less c = search needs
 
 loop-again : tie.Need-loop-again Inv-loop μ-loop
 loop-again c =
@@ -160,7 +144,7 @@ loop-again c =
     (two-bytes3 .ensures .0) (receive .ensures) (two-bytes4 .ensures .0) (c .receive2 .ensures)
 
 returns-2 : tie.Need-returns-2 Inv-loop μ-loop
-returns-2 c = all-added (c .before .loop .inv) (c .loop-test .left)
+returns-2 c = search all-added
 
 pub add-up-spec : {M : Type 1} → statement M
 add-up-spec =

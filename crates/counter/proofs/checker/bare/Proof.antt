@@ -14,7 +14,7 @@ element-copy-out-if1 : tie.Need-element-copy-out-if1
 element-copy-out-if1 c = search needs
 
 returns : tie.Need-returns
-returns c = first-receives (c .before .before .ends-of .ensures .0) (c .before .before .ends-of .ensures .1) (c .if1 .taken)
+returns c = search (first-receives, needs)
 
 mul-result : tie.Need-mul-result
 mul-result c = search needs
@@ -23,7 +23,7 @@ element-copy-out-result : tie.Need-element-copy-out-result
 element-copy-out-result c = search needs
 
 returns-2 : tie.Need-returns-2
-returns-2 c = second-decides (c .before .before .before .ends-of .ensures .0) (c .before .before .before .ends-of .ensures .1) (c .before .if1 .left)
+returns-2 c = search (second-decides, needs)
 
 pub bare-spec : {M : Type 1} → statement M
 bare-spec = tie.close (tie.spec ends-of-requires mul-if1 element-copy-out-if1 returns mul-result element-copy-out-result returns-2)

@@ -8,6 +8,8 @@ use Rattle.density.proofs.OneAnswer.{NoneBelow}
 use Rattle.routes.specs.Arrays.{netIn}
 use Rattle.counter.specs.Range.{inRange, raise}
 use Rattle.counter.proofs.count.Passing.{one-more, found-here, one-found, none-found}
+use Rattle.counter.proofs.Nets.{solving}
+use borrow.Author.Needs.{needs}
 use Rattle.counter.proofs.count.lowest_above.Statement.{statement}
 use Rattle.counter.proofs.count.lowest_above.Tie as tie
 
@@ -21,39 +23,33 @@ from-least-requires : tie.Need-from-least-requires Inv-loop μ-loop
 from-least-requires c κs = ap inRange (toZ-ofZ (c .fits .k)) ∙ (c .pre .in-range)
 
 base-requires : tie.Need-base-requires Inv-loop μ-loop
-base-requires c κs =
-    let pre = c .before .before .before .before .before .before .before .pre in
-    (pre .countable .fair)
+base-requires c κs = search needs
 
 loop-holds : tie.Need-loop-holds Inv-loop μ-loop
 loop-holds c = λ e t l q. absurd (omega arith)
 
 answer-requires : tie.Need-answer-requires Inv-loop μ-loop
-answer-requires c κs =
-    let pre = c .before .before .before .before .before .before .before .before .before .before .before .before .before .pre in
-    let loop-test = c .before .before .before .loop-test in
-    let loop = c .before .before .before .before .loop in
-    let base = c .before .before .before .before .before .base in
-    let can = (pre .countable) in
-    record { fair = can .fair; is = (loop-test .taken); some = can .heavy (loop .lowest) (loop-test .taken); spread = (base .ensures) }
+answer-requires c κs = search (solving, needs)
 
 is-above-requires : tie.Need-is-above-requires Inv-loop μ-loop
 is-above-requires c κs =
-    let from-least = c .before .before .before .before .before .before .before .before .before .before .before .before .before .from-least in
-    (omega (arith, (c .answer .ensures .above-small)), omega (arith, (c .answer .ensures .below-small)), omega (arith, (from-least .ensures .most)))
+    let at-base = c .before .before .before .before .before .before in
+    let at-from-least = at-base .before .before .before .before .before .before .before in
+    search (needs, at-from-least .from-least .ensures)
+
+block-of-requires : tie.Need-block-of-requires Inv-loop μ-loop
+block-of-requires c κs = search needs
 
 returns : tie.Need-returns Inv-loop μ-loop
 returns c =
-    let from-least = c .before .before .before .before .before .before .before .before .before .before .before .before .before .before .before .before .from-least in
-    let fits = c .before .before .before .before .before .before .before .before .before .before .before .before .before .before .before .before .before .fits in
-    let args = c .before .before .before .before .before .before .before .before .before .before .before .before .before .before .before .before .before .args in
-    let loop = c .before .before .before .before .before .before .before .before .loop in
-    let answer = c .before .before .before .answer in
-    let loop-test = c .before .before .before .before .before .before .before .loop-test in
-    let is-above = c .before .before .is-above in
-    one-found (sym (from-least .ensures .is) ∙ toZ-ofZ (fits .k))
-    (found-here (args .net) (subℕ (from-least .result) raise) (loop .lowest) (answer .result .above) (answer .result .below) (answer .result .marks) (answer .result .shares)
-    (loop .inv) (answer .ensures) (loop-test .taken) ((is-above .ensures .yes) (c .before .if1 .taken)))
+    let at-answer = c .before .before .before in
+    let at-loop-test = at-answer .before .before .before .before in
+    let at-loop = at-loop-test .before in
+    let at-from-least = at-loop .before .before .before .before .before .before .before .before in
+    let start = at-from-least .before in
+    one-found (sym (at-from-least .from-least .ensures .is) ∙ toZ-ofZ (start .fits .k))
+    (found-here (start .args .net) (subℕ (at-from-least .from-least .result) raise) (at-loop .loop .lowest) (at-answer .answer .result)
+    (at-loop .loop .inv) (at-answer .answer .ensures) (at-loop-test .loop-test .taken) ((c .before .before .is-above .ensures .yes) (c .before .if1 .taken)) (c .block-of .ensures))
 
 add-lowest : tie.Need-add-lowest Inv-loop μ-loop
 add-lowest c = omega arith
@@ -63,19 +59,17 @@ loop-less c = omega arith
 
 loop-again : tie.Need-loop-again Inv-loop μ-loop
 loop-again c =
-    let args = c .before .before .before .before .before .before .before .before .before .before .before .before .before .before .before .before .args in
-    let from-least = c .before .before .before .before .before .before .before .before .before .before .before .before .before .before .before .from-least in
-    let loop = c .before .before .before .before .before .before .before .loop in
-    let answer = c .before .before .answer in
-    one-more (args .net) (subℕ (from-least .result) raise) (loop .lowest) (answer .result .above) (answer .result .below) (answer .result .marks) (answer .result .shares)
-    (loop .inv) (answer .ensures) ((c .before .is-above .ensures .no) (c .if1 .left))
+    let at-loop = c .before .before .before .before .before .before .before in
+    let at-from-least = at-loop .before .before .before .before .before .before .before .before in
+    let start = at-from-least .before in
+    one-more (start .args .net) (subℕ (at-from-least .from-least .result) raise) (at-loop .loop .lowest) (c .before .before .answer .result)
+    (at-loop .loop .inv) (c .before .before .answer .ensures) ((c .before .is-above .ensures .no) (c .if1 .left))
 
 returns-2 : tie.Need-returns-2 Inv-loop μ-loop
 returns-2 c =
-    let from-least = c .before .before .before .before .before .before .before .before .before .before .from-least in
-    let fits = c .before .before .before .before .before .before .before .before .before .before .before .fits in
-    let loop = c .before .before .loop in
-    none-found (sym (from-least .ensures .is) ∙ toZ-ofZ (fits .k)) (λ e t l q. (loop .inv) e t (omega arith) q)
+    let at-from-least = c .before .before .before .before .before .before .before .before .before .before in
+    let start = at-from-least .before in
+    none-found (sym (at-from-least .from-least .ensures .is) ∙ toZ-ofZ (start .fits .k)) (λ e t l q. (c .before .before .loop .inv) e t (omega arith) q)
 
 pub lowest-above-spec : {M : Type 1} → statement M
 lowest-above-spec =
@@ -88,6 +82,7 @@ lowest-above-spec =
     loop-holds
     answer-requires
     is-above-requires
+    block-of-requires
     returns
     add-lowest
     loop-less

@@ -2,6 +2,7 @@
 use mathlib.Core.Path.{_∙_}
 use Rattle.counter.proofs.SignedK.{low-outside, high-outside, inside}
 use Rattle.counter.proofs.Faults.{room-short, room-there, range-outside, range-there, of-the-drawing, of-what-is-asked, of-nothing}
+use borrow.Author.Needs.{needs}
 use Rattle.counter.proofs.fault.range_fault.Statement.{statement}
 use Rattle.counter.proofs.fault.range_fault.Tie as tie
 
@@ -31,13 +32,7 @@ returns-4 c =
     of-what-is-asked (if1 .left) (range-there (args .k) _ k ∙ room-short (args .room) (args .need) (c .if4 .taken))
 
 returns-5 : tie.Need-returns-5
-returns-5 c =
-    let fits = c .before .before .before .before .fits in
-    let if2 = c .before .before .if2 in
-    let if1 = c .before .before .before .if1 in
-    let args = c .before .before .before .before .args in
-    let k = inside (fits .k) (if2 .left) (c .before .if3 .left) in
-    of-nothing (if1 .left) (range-there (args .k) _ k ∙ room-there (args .room) (args .need) (c .if4 .left)) (k, (c .if4 .left))
+returns-5 c = search (inside, of-nothing, range-there, room-there, needs)
 
 pub range-fault-spec : {M : Type 1} → statement M
 range-fault-spec = tie.close (tie.spec returns returns-2 returns-3 returns-4 returns-5)

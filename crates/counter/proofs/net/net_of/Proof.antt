@@ -4,17 +4,41 @@ use borrow.Author.Needs.{needs}
 use Rattle.counter.proofs.net.net_of.Statement.{statement}
 use Rattle.counter.proofs.net.net_of.Tie as tie
 
-read-requires : tie.Need-read-requires
-read-requires c κs = search needs
+no-ends-requires : tie.Need-no-ends-requires
+no-ends-requires c κs = search needs
+
+no-objects-requires : tie.Need-no-objects-requires
+no-objects-requires c κs = search needs
+
+no-objects-requires-2 : tie.Need-no-objects-requires-2
+no-objects-requires-2 c κs = search needs
+
+no-constraints-requires : tie.Need-no-constraints-requires
+no-constraints-requires c κs = search needs
+
+no-constraints-requires-2 : tie.Need-no-constraints-requires-2
+no-constraints-requires-2 c κs = search needs
+
+fill-requires : tie.Need-fill-requires
+fill-requires c κs = search needs
 
 weigh-requires : tie.Need-weigh-requires
 weigh-requires c κs = search needs
 
 returns : tie.Need-returns
 returns c =
-    let read = c .before .before .before .before .read in
-    let weigh = c .before .before .before .weigh in
-    net-for (read .ensures) (weigh .ensures)
+    let fill = c .before .before .before .before .before .before .before .before .fill in
+    net-for (fill .ensures) (c .before .before .weigh .ensures)
 
 pub net-of-spec : {M : Type 1} → statement M
-net-of-spec = tie.close (tie.spec read-requires weigh-requires returns)
+net-of-spec =
+    tie.close
+    (tie.spec
+    no-ends-requires
+    no-objects-requires
+    no-objects-requires-2
+    no-constraints-requires
+    no-constraints-requires-2
+    fill-requires
+    weigh-requires
+    returns)

@@ -2,6 +2,7 @@
 use Prim.Native.Nat.{_*_, _-_, _≤_}
 use native.Mathlib.Omega.{arith}
 use Rattle.counter.proofs.sheet.Writing.{SharesWritten, none-written, one-written, all-written}
+use borrow.Author.Needs.{needs}
 use Rattle.counter.proofs.sheet.put_sheet.Statement.{statement}
 use Rattle.counter.proofs.sheet.put_sheet.Tie as tie
 
@@ -12,9 +13,7 @@ abbrev μ-loop : tie.MeasureT-loop
 μ-loop m buffer₀ shares i₀ buffer i = 2 * m - i
 
 loop-holds : tie.Need-loop-holds Inv-loop μ-loop
-loop-holds c =
-    let args = c .before .before .args in
-    (none-written (args .solution .shares) (args .buffer .now), omega arith)
+loop-holds c = search (none-written, needs)
 
 mul-loop : tie.Need-mul-loop Inv-loop μ-loop
 mul-loop c = omega arith
@@ -32,7 +31,7 @@ two-bytes-requires : tie.Need-two-bytes-requires Inv-loop μ-loop
 two-bytes-requires c κs = tt
 
 put-two-requires : tie.Need-put-two-requires Inv-loop μ-loop
-put-two-requires c κs = (omega arith, (c .two-bytes .ensures .1))
+put-two-requires c κs = omega arith
 
 add-i : tie.Need-add-i Inv-loop μ-loop
 add-i c = omega arith

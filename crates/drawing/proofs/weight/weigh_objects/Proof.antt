@@ -47,7 +47,7 @@ loop-again c =
     (omega arith, filled-more _ _ _ _ (inv .1) (omega arith) weight)
 
 returns : tie.Need-returns Inv-loop μ-loop
-returns c = filled-all _ _ _ _ (c .before .loop .inv .1) (c .before .loop .inv .0) (c .loop-test .left)
+returns c = search (filled-all, needs)
 
 pub weigh-objects-spec : {M : Type 1} → statement M
 weigh-objects-spec =

@@ -1,5 +1,6 @@
 -- `routes::answer::base` meets its contract. Assumes nothing.
 use Rattle.routes.proofs.answer.EmptyStart.{spread-settling, spread-settled}
+use borrow.Author.Needs.{needs}
 use Rattle.routes.proofs.answer.base.Statement.{statement}
 use Rattle.routes.proofs.answer.base.Tie as tie
 
@@ -7,12 +8,10 @@ nothing-requires : tie.Need-nothing-requires
 nothing-requires c κs = c .pre
 
 settle-requires : tie.Need-settle-requires
-settle-requires c κs =
-    spread-settling (c .before .before .before .before .before .before .before .before .before .before .before .nothing .ensures)
+settle-requires c κs = search (spread-settling, needs)
 
 returns : tie.Need-returns
-returns c =
-    spread-settled (c .before .before .before .before .before .before .before .before .before .before .before .before .nothing .ensures) (c .settle .ensures)
+returns c = search (spread-settled, needs)
 
 pub base-spec : {M : Type 1} → statement M
 base-spec = tie.close (tie.spec nothing-requires settle-requires returns)

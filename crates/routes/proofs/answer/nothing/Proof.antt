@@ -11,8 +11,7 @@ rooms-requires : tie.Need-rooms-requires
 rooms-requires c κs = search needs
 
 returns : tie.Need-returns
-returns c =
-    opened (c .before .before .before .before .before .pre) (c .before .before .before .before .chain .ensures) (c .rooms .ensures .0) (c .rooms .ensures .1)
+returns c = search (opened, needs)
 
 pub nothing-spec : {M : Type 1} → statement M
 nothing-spec = tie.close (tie.spec chain-requires rooms-requires returns)

@@ -2,6 +2,7 @@
 use Prim.Native.Nat.{_-_}
 use native.Mathlib.Omega.{arith}
 use Rattle.routes.proofs.answer.WeightLeft.{RemainderBelow, remainder-start, remainder-asks, remainder-turn, remainder-end}
+use borrow.Author.Needs.{needs}
 use Rattle.routes.proofs.answer.remainder.Statement.{statement}
 use Rattle.routes.proofs.answer.remainder.Tie as tie
 
@@ -15,9 +16,7 @@ loop-holds : tie.Need-loop-holds Inv-loop μ-loop
 loop-holds c = remainder-start (c .args .m) (c .args .takes .now) (c .args .shares .now)
 
 left-requires : tie.Need-left-requires Inv-loop μ-loop
-left-requires c κs =
-    let l = c .before in
-    remainder-asks (l .before .pre) (l .loop .inv) (c .loop-test .taken)
+left-requires c κs = search (remainder-asks, needs)
 
 add-sum : tie.Need-add-sum Inv-loop μ-loop
 add-sum c =
@@ -25,20 +24,16 @@ add-sum c =
     omega (arith, c .left .ensures, l .loop .inv .small, l .before .pre .few, l .before .pre .light (l .loop .e) (c .before .loop-test .taken))
 
 add-e : tie.Need-add-e Inv-loop μ-loop
-add-e c = omega (arith, c .before .loop-test .taken, c .before .before .before .pre .few)
+add-e c = search needs
 
 loop-less : tie.Need-loop-less Inv-loop μ-loop
 loop-less c = omega (arith, c .before .loop-test .taken)
 
 loop-again : tie.Need-loop-again Inv-loop μ-loop
-loop-again c =
-    let l = c .before .before in
-    remainder-turn (l .before .pre) (l .loop .inv) (c .before .loop-test .taken) (c .left .result) (c .left .ensures)
+loop-again c = search (remainder-turn, needs)
 
 returns : tie.Need-returns Inv-loop μ-loop
-returns c =
-    let l = c .before in
-    remainder-end (l .before .pre) (l .loop .inv) (c .loop-test .left)
+returns c = search (remainder-end, needs)
 
 pub remainder-spec : {M : Type 1} → statement M
 remainder-spec = tie.close (tie.spec Inv-loop μ-loop loop-holds left-requires add-sum add-e loop-less loop-again returns)

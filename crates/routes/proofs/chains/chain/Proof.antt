@@ -3,6 +3,7 @@ use Prim.Native.Nat.{_-_, _*_, _<_}
 use native.Mathlib.Omega.{arith}
 use Rattle.limits.specs.Limits.{mostObjects}
 use Rattle.routes.proofs.chains.Chaining.{Chaining, chain-start, chain-turn, chain-end}
+use borrow.Author.Needs.{needs}
 use Rattle.routes.proofs.chains.chain.Statement.{statement}
 use Rattle.routes.proofs.chains.chain.Tie as tie
 
@@ -19,7 +20,7 @@ mul-loop : tie.Need-mul-loop Inv-loop μ-loop
 mul-loop c = omega (arith, c .before .pre .few)
 
 place-at-requires : tie.Need-place-at-requires Inv-loop μ-loop
-place-at-requires c κs = omega (arith, c .before .before .pre .few)
+place-at-requires c κs = search needs
 
 -- the end at i is an object
 v-small : (c : tie.After-place-at Inv-loop μ-loop) → c .place-at .result < mostObjects
@@ -34,18 +35,16 @@ array-read-next : tie.Need-array-read-next Inv-loop μ-loop
 array-read-next c = omega (arith, v-small c, c .before .before .loop .inv .head-long)
 
 mul-next-2 : tie.Need-mul-next-2 Inv-loop μ-loop
-mul-next-2 c = omega (arith, c .before .before .before .pre .few)
+mul-next-2 c = search needs
 
 array-write-next : tie.Need-array-write-next Inv-loop μ-loop
-array-write-next c =
-    let l = c .before .before in
-    omega (arith, l .before .pre .few, l .loop .inv .next-long)
+array-write-next c = search needs
 
 add-i : tie.Need-add-i Inv-loop μ-loop
-add-i c = omega (arith, c .before .before .before .pre .few)
+add-i c = search needs
 
 cast-head : tie.Need-cast-head Inv-loop μ-loop
-cast-head c = omega (arith, c .before .before .before .pre .few)
+cast-head c = search needs
 
 mul-head : tie.Need-mul-head Inv-loop μ-loop
 mul-head c = omega (arith, v-small c)
@@ -57,12 +56,10 @@ loop-less : tie.Need-loop-less Inv-loop μ-loop
 loop-less c = omega arith
 
 loop-again : tie.Need-loop-again Inv-loop μ-loop
-loop-again c =
-    let l = c .before .before in
-    chain-turn (l .before .pre) (l .loop .inv) (c .before .loop-test .taken) (c .place-at .ensures)
+loop-again c = search (chain-turn, needs)
 
 returns : tie.Need-returns Inv-loop μ-loop
-returns c = chain-end (c .before .before .pre) (c .before .loop .inv) (c .loop-test .left)
+returns c = search (chain-end, needs)
 
 pub chain-spec : {M : Type 1} → statement M
 chain-spec = tie.close (tie.spec Inv-loop μ-loop loop-holds mul-loop place-at-requires mul-next array-read-next mul-next-2 array-write-next add-i cast-head mul-head array-write-head loop-less loop-again returns)

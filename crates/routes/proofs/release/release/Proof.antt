@@ -1,8 +1,8 @@
 -- `routes::release::release` meets its contract. The invariant: the places of v from left on are empty. Assumes nothing.
 use Prim.Native.Nat.{_<_}
 use native.Mathlib.Nat.{pos-of-ne-zero}
-use native.Mathlib.Omega.{arith}
 use Rattle.routes.proofs.release.TakingBack.{TakingBack, taking-start, taking-end, taking-place, taking-less, taking-turn}
+use borrow.Author.Needs.{needs}
 use Rattle.routes.proofs.release.release.Statement.{statement}
 use Rattle.routes.proofs.release.release.Tie as tie
 
@@ -25,19 +25,13 @@ sub-k : tie.Need-sub-k Inv-loop μ-loop
 sub-k c = turn c
 
 place-at-requires : tie.Need-place-at-requires Inv-loop μ-loop
-place-at-requires c κs =
-    let l = c .before in
-    taking-place (l .before .before .pre) (l .loop .inv) (turn c)
+place-at-requires c κs = search (taking-place, needs)
 
 mul-shares : tie.Need-mul-shares Inv-loop μ-loop
-mul-shares c =
-    let l = c .before .before in
-    omega (arith, taking-place (l .before .before .pre) (l .loop .inv) (turn (c .before)))
+mul-shares c = search (taking-place, needs)
 
 element-write-shares : tie.Need-element-write-shares Inv-loop μ-loop
-element-write-shares c =
-    let l = c .before .before in
-    taking-place (l .before .before .pre) (l .loop .inv) (turn (c .before))
+element-write-shares c = search (taking-place, needs)
 
 loop-less : tie.Need-loop-less Inv-loop μ-loop
 loop-less c =
@@ -50,10 +44,10 @@ loop-again c =
     taking-turn (l .before .before .pre) (l .loop .inv) (turn (c .before)) (c .place-at .ensures)
 
 element-write-room : tie.Need-element-write-room Inv-loop μ-loop
-element-write-room c = c .before .before .before .pre .object
+element-write-room c = search needs
 
 returns : tie.Need-returns Inv-loop μ-loop
-returns c = taking-end (c .before .before .before .pre) (c .before .loop .inv) (c .loop-test .left)
+returns c = search (taking-end, needs)
 
 pub release-spec : {M : Type 1} → statement M
 release-spec = tie.close (tie.spec Inv-loop μ-loop head-of-requires loop-holds sub-k place-at-requires mul-shares element-write-shares loop-less loop-again element-write-room returns)

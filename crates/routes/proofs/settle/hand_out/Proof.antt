@@ -6,6 +6,7 @@ use borrow.Author.Tests.{not-true, not-false}
 use Rattle.routes.specs.At.{at}
 use Rattle.routes.specs.State.{State, state, bothShares}
 use Rattle.routes.proofs.settle.OneConstraint.{Going, going-start, going-asks, going-left, going-less, going-on, going-no-route, going-end}
+use borrow.Author.Needs.{needs}
 use Rattle.routes.proofs.settle.hand_out.Statement.{statement}
 use Rattle.routes.proofs.settle.hand_out.Tie as tie
 
@@ -40,9 +41,7 @@ left-requires c κs =
     going-left (l .before .pre) (l .loop .inv)
 
 from-constraint-requires : tie.Need-from-constraint-requires Inv-loop μ-loop
-from-constraint-requires c κs =
-    let l = loop (c .before .before .before .before) in
-    going-asks (l .before .pre) (l .loop .inv)
+from-constraint-requires c κs = search (going-asks, needs)
 
 returns : tie.Need-returns Inv-loop μ-loop
 returns c =
@@ -60,9 +59,7 @@ loop-again c =
     going-on (l .before .pre) (l .loop .inv) (has-left b) {u = after f} (f .from-constraint .ensures) (not-false (f .from-constraint .result .found) (c .if2 .left))
 
 returns-2 : tie.Need-returns-2 Inv-loop μ-loop
-returns-2 c =
-    let l = c .before .before .before in
-    going-end (l .before .pre) (l .loop .inv) (omega (arith, c .before .left .ensures, c .if1 .left))
+returns-2 c = search (going-end, needs)
 
 pub hand-out-spec : {M : Type 1} → statement M
 hand-out-spec = tie.close (tie.spec Inv-loop μ-loop loop-holds left-requires from-constraint-requires returns loop-less loop-again returns-2)

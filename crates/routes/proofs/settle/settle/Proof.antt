@@ -3,6 +3,7 @@ use Prim.Native.Nat.{_-_}
 use native.Mathlib.Omega.{arith}
 use Rattle.routes.specs.State.{State, state}
 use Rattle.routes.proofs.settle.AllConstraints.{DoneBelow, all-start, all-end, all-left, all-asks, all-skip, all-on}
+use borrow.Author.Needs.{needs}
 use Rattle.routes.proofs.settle.settle.Statement.{statement}
 use Rattle.routes.proofs.settle.settle.Tie as tie
 
@@ -28,7 +29,7 @@ loop-holds : tie.Need-loop-holds Inv-loop μ-loop
 loop-holds c = all-start (c .pre)
 
 add-after : tie.Need-add-after Inv-loop μ-loop
-add-after c = omega (arith, c .loop-test .taken, c .before .before .pre .chained .few)
+add-after c = search needs
 
 needs-route-requires : tie.Need-needs-route-requires Inv-loop μ-loop
 needs-route-requires c κs =
@@ -44,9 +45,7 @@ loop-less : tie.Need-loop-less Inv-loop μ-loop
 loop-less c = omega (arith, turn (needed c) .loop-test .taken)
 
 loop-again : tie.Need-loop-again Inv-loop μ-loop
-loop-again c =
-    let b = turn (needed c) in let l = b .before in
-    all-on (l .before .pre) (l .loop .inv) (b .loop-test .taken) {u = handed-out c} (c .hand-out .ensures)
+loop-again c = search (all-on, needs)
 
 loop-less-2 : tie.Need-loop-less-2 Inv-loop μ-loop
 loop-less-2 c = omega (arith, turn (c .before) .loop-test .taken)
@@ -57,9 +56,7 @@ loop-again-2 c =
     all-skip (l .before .pre) (l .loop .inv) (b .loop-test .taken) (w .needs-route .ensures .no (c .if1 .left))
 
 returns : tie.Need-returns Inv-loop μ-loop
-returns c =
-    let l = c .before in
-    all-end (l .before .pre) (l .loop .inv) (c .loop-test .left)
+returns c = search (all-end, needs)
 
 pub settle-spec : {M : Type 1} → statement M
 settle-spec = tie.close (tie.spec Inv-loop μ-loop loop-holds add-after needs-route-requires hand-out-requires loop-less loop-again loop-less-2 loop-again-2 returns)
