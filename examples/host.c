@@ -1,5 +1,5 @@
 /*
- * A host of the constraint counter: reads a drawing file, asks all five questions and prints the answers in words.
+ * A host of the constraint counter: reads a drawing file, asks every question and prints the answers in words.
  *
  *   host [-s] DRAWING [K [C]]
  *

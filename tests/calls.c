@@ -1,5 +1,5 @@
 /*
- * Some thousand calls of all five questions, for a checker of memory to watch: every drawing, sheet and buffer has
+ * Some thousand calls of all questions, for a checker of memory to watch: every drawing, sheet and buffer has
  * exactly the length that is lent. The drawings named on the command line are asked about whole, cut at each length,
  * and with each byte altered in turn; then the largest drawing there is, and drawings with one record more.
  *
@@ -129,7 +129,7 @@ static void ask_constraint(const uint8_t *drawing, size_t len, uint32_t c, size_
         ask_sheet(drawing, len, c, rows, rows - 1, claim);
 }
 
-/* All five questions; of the constraints the first, the last, the one after it and one far off, or each of them. */
+/* All questions; of the constraints the first, the last, the one after it and one far off, or each of them. */
 static void ask(const uint8_t *bytes, size_t len, int each)
 {
     static const int32_t ks[] = {-65, -64, -4, -3, -2, 8191, 8192};

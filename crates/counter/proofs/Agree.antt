@@ -1,8 +1,8 @@
--- Two outcomes that both fit a question agree: four of the questions determine the code and every byte written. The sheet is the one
+-- Two outcomes that both fit a question agree: the questions determine the code and every byte written. The sheet is the one
 -- exception: two outcomes agree in the code and in how many bytes are written. Assumes nothing.
 use mathlib.Core.Path.{_≡_, sym, _∙_, ap, subst}
 use mathlib.Core.Logic.{inl, inr}
-use mathlib.Core.List.{List, []}
+use mathlib.Core.List.{List}
 use Prim.Native.Nat.{ℕ, zero, suc, _*_}
 use lib.IntN.{ℤ}
 use lib.ListN.{length, drop}
@@ -12,7 +12,7 @@ use Rattle.density.proofs.OneAnswer.{answers-agree, lowest-one}
 use Rattle.drawing.specs.Entry.{Drawing}
 use Rattle.drawing.specs.Read.{Reading, refused, accepted}
 use Rattle.counter.specs.Weighed.{weighed}
-use Rattle.counter.specs.Outcome.{Outcome, answered, Question, Unless, Fits, over, Answers, Replies}
+use Rattle.counter.specs.Outcome.{Outcome, answered, Question, Unless, Fits, over, Answers, Replies, askedFault}
 use Rattle.counter.specs.Question.{lookOver, oneConstraint, anyDense, sheetFor, check, BlockOf, SheetOf}
 use Rattle.counter.proofs.Blocks.{block-same}
 use lib.Seq.{drop-at}
@@ -25,16 +25,16 @@ Determines part q = (d : Drawing) (o p : Outcome) → q .answer d o → q .answe
 module _ {A : Type 0} (part : Outcome → A) (q : Question) (determined : Determines part q) where
   pub outcomes-agree : (r : Reading) (o p : Outcome) → Fits q r o → Fits q r p → part o ≡ part p
   outcomes-agree (refused n) o p x y = ap part (x ∙ sym y)
-  outcomes-agree (accepted d) o p x y = go (q .fault d) x y
+  outcomes-agree (accepted d) o p x y = go (askedFault q d) x y
     where
       go : (n : ℕ) → Unless n o (q .answer d o) → Unless n p (q .answer d p) → part o ≡ part p
       go zero x y = determined d o p x y
       go (suc n) x y = ap part (x ∙ sym y)
 
 -- where q determines the outcome, two results that both fit the statement agree in the code and in every byte of the buffer
-pub results-agree : (q : Question) → Determines (λ o. o) q → (s : Reading) (r₁ r₂ : ℕ) (before after₁ after₂ : List ℕ)
+pub results-agree : (q : Question) → Determines (λ o. o) q → {s : Reading} {r₁ r₂ : ℕ} {before after₁ after₂ : List ℕ}
     → Answers q s r₁ before after₁ → Answers q s r₂ before after₂ → (r₁ ≡ r₂) × (after₁ ≡ after₂)
-results-agree q determined s r₁ r₂ before after₁ after₂ a b = (
+results-agree q determined {s} {before = before} a b = (
   a .result-is ∙ ap (λ (o : Outcome). o .code) same ∙ sym (b .result-is),
   a .after-is ∙ ap (λ (o : Outcome). over (o .bytes) before) same ∙ sym (b .after-is),
 )
@@ -42,7 +42,7 @@ results-agree q determined s r₁ r₂ before after₁ after₂ a b = (
     same : a .outcome ≡ b .outcome
     same = outcomes-agree (λ o. o) q determined s (a .outcome) (b .outcome) (a .fits) (b .fits)
 
--- ---- the five
+-- ---- each question
 
 pub look-over-determines : (room : ℕ) → Determines (λ o. o) (lookOver room)
 look-over-determines room d o p x y = x ∙ sym y
@@ -92,7 +92,7 @@ sheet-determines-size c room d o p x y = size x ∙ sym (size y)
 pub sheet-behind : (c : ℕ) {s : Reading} {r : ℕ} {before after : List ℕ} → Answers (sheetFor c (length before)) s r before after
     → (d : Drawing) → s ≡ accepted d → drop (sheetSize (length (d .constraints))) after ≡ drop (sheetSize (length (d .constraints))) before
 sheet-behind c {before = before} {after = after} a d is =
-    go (sheetFor c (length before) .fault d) (subst (λ (x : Reading). Fits (sheetFor c (length before)) x (a .outcome)) is (a .fits))
+    go (askedFault (sheetFor c (length before)) d) (subst (λ (x : Reading). Fits (sheetFor c (length before)) x (a .outcome)) is (a .fits))
   where
     m : ℕ
     m = length (d .constraints)
@@ -108,21 +108,18 @@ sheet-behind c {before = before} {after = after} a d is =
 
 pub look-over-agrees : {s : Reading} {before after₁ after₂ : List ℕ} {r₁ r₂ : ℕ} → Answers (lookOver (length before)) s r₁ before after₁
     → Answers (lookOver (length before)) s r₂ before after₂ → (r₁ ≡ r₂) × (after₁ ≡ after₂)
-look-over-agrees {s} {before} {after₁} {after₂} {r₁} {r₂} =
-    results-agree (lookOver (length before)) (look-over-determines (length before)) s r₁ r₂ before after₁ after₂
+look-over-agrees {before = before} = results-agree (lookOver (length before)) (look-over-determines (length before))
 
 pub one-constraint-agrees : (c : ℕ) {s : Reading} {before after₁ after₂ : List ℕ} {r₁ r₂ : ℕ} → Answers (oneConstraint c (length before)) s r₁ before after₁
     → Answers (oneConstraint c (length before)) s r₂ before after₂ → (r₁ ≡ r₂) × (after₁ ≡ after₂)
-one-constraint-agrees c {s} {before} {after₁} {after₂} {r₁} {r₂} =
-    results-agree (oneConstraint c (length before)) (one-constraint-determines c (length before)) s r₁ r₂ before after₁ after₂
+one-constraint-agrees c {before = before} = results-agree (oneConstraint c (length before)) (one-constraint-determines c (length before))
 
 pub any-dense-agrees : (k : ℤ) {s : Reading} {before after₁ after₂ : List ℕ} {r₁ r₂ : ℕ} → Answers (anyDense k (length before)) s r₁ before after₁
     → Answers (anyDense k (length before)) s r₂ before after₂ → (r₁ ≡ r₂) × (after₁ ≡ after₂)
-any-dense-agrees k {s} {before} {after₁} {after₂} {r₁} {r₂} =
-    results-agree (anyDense k (length before)) (any-dense-determines k (length before)) s r₁ r₂ before after₁ after₂
+any-dense-agrees k {before = before} = results-agree (anyDense k (length before)) (any-dense-determines k (length before))
 
 pub check-agrees : (c : ℕ) (b : List ℕ) (z : ℤ) {s : Reading} {r₁ r₂ : ℕ} → Replies (check c b z) s r₁ → Replies (check c b z) s r₂ → r₁ ≡ r₂
-check-agrees c b z {s} {r₁} {r₂} x y = results-agree (check c b z) (check-determines c b z) s r₁ r₂ [] [] [] x y .0
+check-agrees c b z x y = results-agree (check c b z) (check-determines c b z) x y .0
 
 -- the sheet: the code, and every byte behind the sheet
 pub sheet-agrees : (c : ℕ) {s : Reading} {before after₁ after₂ : List ℕ} {r₁ r₂ : ℕ} → Answers (sheetFor c (length before)) s r₁ before after₁

@@ -8,7 +8,7 @@ use native.Mathlib.Omega.{arith}
 use lib.IntN.{ℤ}
 use Rattle.drawing.specs.Entry.{Drawing}
 use Rattle.drawing.specs.Read.{Reading, refused, accepted, read}
-use Rattle.counter.specs.Outcome.{Outcome, says, Question, Unless, Fits, over, Answers, firstFault}
+use Rattle.counter.specs.Outcome.{Outcome, says, Question, Unless, Fits, over, Answers, firstFault, askedFault}
 use Rattle.counter.specs.Question.{oneConstraint, anyDense, sheetFor, check, lookOver}
 use Rattle.drawing.proofs.Reading.{refused-number}
 
@@ -24,18 +24,18 @@ module _ (q : Question) (s : List ℕ) {r : ℕ} {before after : List ℕ} (a : 
   -- what the call came to, by its first fault
   data Came : Type 0 where
     refused-with : (n : ℕ) → firstFault q (read s) ≡ n → 1 ≤ n → a .outcome ≡ says n → Came
-    answered-for : (d : Drawing) → read s ≡ accepted d → q .fault d ≡ 0 → q .answer d (a .outcome) → Came
+    answered-for : (d : Drawing) → read s ≡ accepted d → askedFault q d ≡ 0 → q .answer d (a .outcome) → Came
 
   came : Came
   came = go (read s) refl (a .fits)
     where
-      asked : (d : Drawing) → read s ≡ accepted d → (f : ℕ) → q .fault d ≡ f → Unless f (a .outcome) (q .answer d (a .outcome)) → Came
+      asked : (d : Drawing) → read s ≡ accepted d → (f : ℕ) → askedFault q d ≡ f → Unless f (a .outcome) (q .answer d (a .outcome)) → Came
       asked d is zero e u = answered-for d is e u
       asked d is (suc f) e u = refused-with (suc f) (ap (firstFault q) is ∙ e) (omega arith) u
 
       go : (x : Reading) → read s ≡ x → Fits q x (a .outcome) → Came
       go (refused n) is u = refused-with n (ap (firstFault q) is) (refused-number s n is .least) u
-      go (accepted d) is u = asked d is (q .fault d) refl u
+      go (accepted d) is u = asked d is (askedFault q d) refl u
 
   -- a fault is given by its number, and the first decides; no lent byte is altered
   pub first-fault-refused : (n : ℕ) → firstFault q (read s) ≡ suc n → (r ≡ suc n) × (after ≡ before)
@@ -70,7 +70,7 @@ module _ (q : Question) (s : List ℕ) {r : ℕ} {before after : List ℕ} (a : 
             code (inl z) = absurd (n (a .result-is ∙ z))
             code (inr z) = said k z .1
 
--- the codes of the five besides 0: none, none, 32, none, 33
+-- the code of each question besides 0, where it has one
 pub look-over-besides : (room : ℕ) → Besides 0 (lookOver room)
 look-over-besides room d o e = inl (ap (λ (p : Outcome). p .code) e)
 

@@ -20,7 +20,7 @@ use Rattle.counter.specs.Weighed.{weighed, Within}
 use Rattle.counter.specs.Block.{blockSize, numberIn, densityIn, setIn}
 use Rattle.counter.specs.Sheet.{sheetSize, sheetIn}
 use Rattle.counter.specs.Fault.{roomFault, numberFault}
-use Rattle.counter.specs.Outcome.{Outcome, says, over, Answers, Replies}
+use Rattle.counter.specs.Outcome.{Outcome, says, over, Answers, Replies, askedFault}
 use Rattle.counter.specs.Question.{oneConstraint, anyDense, sheetFor, check, LowestBlock, NoBlock, SheetOf, Shows}
 use Rattle.counter.proofs.Nets.{accepted-within}
 use Rattle.counter.proofs.Faults.{room-there, number-there, number-names, number-low, range-low}
@@ -80,7 +80,7 @@ module _ (s : List ℕ) (d : Drawing) (is : read s ≡ accepted d) where
   unfolding weighed
   accepted-bounds c b z a = go (x .1)
     where
-      x : (check c b z .fault d ≡ 0) × ((Shows d c b z × (a .outcome ≡ says 0)) ⊎ ((Shows d c b z → ⊥) × (a .outcome ≡ says 33)))
+      x : (askedFault (check c b z) d ≡ 0) × ((Shows d c b z × (a .outcome ≡ says 0)) ⊎ ((Shows d c b z → ⊥) × (a .outcome ≡ says 33)))
       x = unrefused (check c b z) a d is (inl refl) (number-low m c (length b) (sheetSize m))
 
       go : (Shows d c b z × (a .outcome ≡ says 0)) ⊎ ((Shows d c b z → ⊥) × (a .outcome ≡ says 33)) → Bound (weighed d) c z
@@ -95,7 +95,7 @@ module _ (s : List ℕ) (d : Drawing) (is : read s ≡ accepted d) where
   unfolding weighed
   own-sheet-accepted c {before} {after} a z top {r} checked = go (faultless-answered (check c after z) checked d is fine)
     where
-      x : (sheetFor c (length before) .fault d ≡ 0) × SheetOf d c (a .outcome)
+      x : (askedFault (sheetFor c (length before)) d ≡ 0) × SheetOf d c (a .outcome)
       x = unrefused (sheetFor c (length before)) a d is (inl refl) (number-low m c (length before) (sheetSize m))
 
       own : List ℕ
@@ -110,7 +110,7 @@ module _ (s : List ℕ) (d : Drawing) (is : read s ≡ accepted d) where
       long : sheetSize m ≤ length after
       long = subst (λ (l : List ℕ). sheetSize m ≤ length l) (sym after-is) (omega (arith, length-append own behind, x .1 .long))
 
-      fine : check c after z .fault d ≡ 0
+      fine : askedFault (check c after z) d ≡ 0
       fine = no-fault m c (length after) (sheetSize m) (number-names m c (roomFault (length before) (sheetSize m)) (x .0)) long
 
       same : (i : Side) (e : ℕ) → e < m → sheetIn own i e ≡ sheetIn after i e

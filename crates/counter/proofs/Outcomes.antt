@@ -1,18 +1,17 @@
 -- What a call comes to: laws for every question. From the first fault of the call, or from an outcome that answers, to the statement of an
 -- entry; and back from a call that was not refused. Assumes nothing.
-use mathlib.Core.Path.{_≡_, refl, sym, _∙_, ap, subst}
+use mathlib.Core.Path.{_≡_, refl, sym, _∙_, ap, ap₂, subst}
 use mathlib.Core.Logic.{_⊎_, inl, inr}
 use mathlib.Core.List.{List}
 use Prim.Native.Nat.{ℕ, zero, suc, _≤_, _<_}
 use native.Mathlib.Decide.{ℕ-discrete}
 use native.Mathlib.Omega.{arith}
 use borrow.Author.Tests.{eq-eqb, ne-eqb}
-use lib.ListN.{length}
 use Rattle.drawing.specs.Choice.{pick}
 use Rattle.drawing.specs.Entry.{Drawing}
 use Rattle.drawing.specs.Read.{Reading, refused, accepted}
 use Rattle.counter.specs.Fault.{callFault, FirstOf}
-use Rattle.counter.specs.Outcome.{Outcome, says, Question, firstFault, Unless, Fits, over, Answers}
+use Rattle.counter.specs.Outcome.{Outcome, says, Question, askedFault, firstFault, Unless, Fits, over, Answers}
 use Rattle.counter.specs.NetFor.{AcceptedAs, CountsFor}
 
 -- ---- to the statement of an entry
@@ -27,46 +26,43 @@ fault-said q x f e h before = record { outcome = says f; fits = go x f e h; resu
 
     go : (x : Reading) (f : ℕ) → firstFault q x ≡ f → (f ≡ 0 → ⊥) → Fits q x (says f)
     go (refused n) f e h = ap says (sym e)
-    go (accepted d) f e h = unless d (q .fault d) f e h
+    go (accepted d) f e h = unless d (askedFault q d) f e h
 
 -- no fault, and an outcome that answers the question, written over the buffer
-outcome-given : (q : Question) (d : Drawing) → q .fault d ≡ 0 → (o : Outcome) → q .answer d o → (before after : List ℕ)
+outcome-given : (q : Question) (d : Drawing) → askedFault q d ≡ 0 → (o : Outcome) → q .answer d o → (before after : List ℕ)
     → after ≡ over (o .bytes) before → Answers q (accepted d) (o .code) before after
 outcome-given q d e o x before after w =
     record { outcome = o; fits = subst (λ (f : ℕ). Unless f o (q .answer d o)) (sym e) x; result-is = refl; after-is = w }
 
 -- ---- the same by what was read
 
--- the fault of a question, by how many constraints there are
-pub record ByCount (q : Question) : Type 0 where
-  pub asked : ℕ → ℕ
-  pub same : (d : Drawing) → q .fault d ≡ asked (length (d .constraints))
+-- r is the first fault of the call
+first-is : (q : Question) {x : Reading} {code n m : ℕ} → CountsFor x code n m → {Fine : Type 0} {r : ℕ} → FirstOf code (q .fault n m) Fine r → firstFault q x ≡ r
+unfolding pick
+first-is q {x} {code} {n} {m} stands first = go (ℕ-discrete code 0) ∙ sym (first .is)
+  where
+    go : Dec (code ≡ 0) → firstFault q x ≡ callFault code (q .fault n m)
+    go (yes z) =
+        ap (firstFault q) (is .reading)
+        ∙ ap₂ (q .fault) (is .objects-are) (is .constraints-are)
+        ∙ sym (ap (λ b. pick b (q .fault n m) code) (eq-eqb code 0 z))
+      where
+        is : AcceptedAs x n m
+        is = stands .accepted-as z
+    go (no h) = ap (firstFault q) (stands .refused-with h) ∙ sym (ap (λ b. pick b (q .fault n m) code) (ne-eqb code 0 h))
 
--- such a question, what was read, and r, which is the first fault of the call
-module _ {q : Question} (by : ByCount q) {x : Reading} {code n m : ℕ} (stands : CountsFor x code n m) {Fine : Type 0} {r : ℕ}
-    (first : FirstOf code (by .asked m) Fine r) where
-  first-is : firstFault q x ≡ r
-  unfolding pick
-  first-is = go (ℕ-discrete code 0) ∙ sym (first .is)
-    where
-      go : Dec (code ≡ 0) → firstFault q x ≡ callFault code (by .asked m)
-      go (yes z) =
-          ap (firstFault q) (is .reading) ∙ by .same (is .drawing) ∙ ap (by .asked) (is .constraints-are) ∙ sym (ap (λ b. pick b (by .asked m) code) (eq-eqb code 0 z))
-        where
-          is : AcceptedAs x n m
-          is = stands .accepted-as z
-      go (no h) = ap (firstFault q) (stands .refused-with h) ∙ sym (ap (λ b. pick b (by .asked m) code) (ne-eqb code 0 h))
-
+module _ {q : Question} {x : Reading} {code n m : ℕ} (stands : CountsFor x code n m) {Fine : Type 0} {r : ℕ}
+    (first : FirstOf code (q .fault n m) Fine r) where
   -- the fault is not 0: it is said, and nothing is written
   pub refuses : (r ≡ 0 → ⊥) → {before : List ℕ} → Answers q x r before before
-  refuses h {before} = fault-said q x r first-is h before
+  refuses h {before} = fault-said q x r (first-is q stands first) h before
 
   -- the fault is 0, the outcome answers the question about the drawing accepted, and its bytes are written over the buffer
   pub answers : (z : r ≡ 0) (o : Outcome) → q .answer (stands .accepted-as (first .clean z) .drawing) o → {before after : List ℕ}
       → after ≡ over (o .bytes) before → Answers q x (o .code) before after
   answers z o y {before} {after} w =
       subst (λ (v : Reading). Answers q v (o .code) before after) (sym (is .reading))
-      (outcome-given q (is .drawing) (sym (ap (firstFault q) (is .reading)) ∙ first-is ∙ z) o y before after w)
+      (outcome-given q (is .drawing) (sym (ap (firstFault q) (is .reading)) ∙ first-is q stands first ∙ z) o y before after w)
     where
       is : AcceptedAs x n m
       is = stands .accepted-as (first .clean z)
@@ -78,10 +74,10 @@ module _ (q : Question) {x : Reading} {r : ℕ} {before after : List ℕ} (a : A
   fits-so = subst (λ (v : Reading). Fits q v (a .outcome)) is (a .fits)
 
   -- nothing asked was amiss, and the outcome answers the question; faults are below 32
-  pub unrefused : (r ≡ 0) ⊎ (32 ≤ r) → q .fault d < 32 → (q .fault d ≡ 0) × q .answer d (a .outcome)
-  unrefused code low = go (q .fault d) refl fits-so
+  pub unrefused : (r ≡ 0) ⊎ (32 ≤ r) → askedFault q d < 32 → (askedFault q d ≡ 0) × q .answer d (a .outcome)
+  unrefused code low = go (askedFault q d) refl fits-so
     where
-      go : (f : ℕ) → q .fault d ≡ f → Unless f (a .outcome) (q .answer d (a .outcome)) → (q .fault d ≡ 0) × q .answer d (a .outcome)
+      go : (f : ℕ) → askedFault q d ≡ f → Unless f (a .outcome) (q .answer d (a .outcome)) → (askedFault q d ≡ 0) × q .answer d (a .outcome)
       go zero e u = (e, u)
       go (suc f) e u = absurd (clash code)
         where
@@ -93,5 +89,5 @@ module _ (q : Question) {x : Reading} {r : ℕ} {before after : List ℕ} (a : A
           clash (inr z) = omega (arith, r-is)
 
   -- a faultless call has an outcome that answers the question
-  pub faultless-answered : q .fault d ≡ 0 → q .answer d (a .outcome)
+  pub faultless-answered : askedFault q d ≡ 0 → q .answer d (a .outcome)
   faultless-answered f = subst (λ (k : ℕ). Unless k (a .outcome) (q .answer d (a .outcome))) f fits-so

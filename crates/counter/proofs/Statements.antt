@@ -23,9 +23,9 @@ use Rattle.counter.specs.declared.net.NetArrays.{NetArrays}
 use Rattle.counter.specs.declared.block.Block.{Block}
 use Rattle.counter.specs.declared.block.Finding.{Finding}
 use Rattle.counter.specs.Weighed.{weighed}
-use Rattle.counter.specs.Block.{two, numbersSize, block, blockSize}
+use Rattle.counter.specs.Block.{two, block}
 use Rattle.counter.specs.Sheet.{sheetSize, sheetIn}
-use Rattle.counter.specs.Fault.{roomFault, numberFault, rangeFault, FirstOf, Named, Ranged}
+use Rattle.counter.specs.Fault.{FirstOf, Named, Ranged}
 use Rattle.counter.specs.Outcome.{says, answered, over, Answers}
 use Rattle.counter.specs.Question.{lookOver, oneConstraint, anyDense, sheetFor, check, BlockOf, Shows}
 use Rattle.counter.specs.NetFor.{netHeld, Countable, AcceptedAs, CountsFor, NetFor}
@@ -33,24 +33,7 @@ use Rattle.counter.specs.Counting.{SolvedIn, blockFrom, BlockIn, AllAt, 
 use Rattle.counter.specs.Written.{Writable, blockBytes, FindingWritten, SheetWritten}
 use Rattle.counter.specs.Checked.{Checked}
 use Rattle.counter.proofs.Blocks.{block-within}
-use Rattle.counter.proofs.Outcomes.{ByCount, refuses, answers}
-
--- ---- the fault of each question, by how many constraints there are
-
-abbrev look-over-by : (room : ℕ) → ByCount (lookOver room)
-look-over-by room = record { asked = λ _. roomFault room numbersSize; same = λ d. refl }
-
-abbrev one-by : (c room : ℕ) → ByCount (oneConstraint c room)
-one-by c room = record { asked = λ m. numberFault m c (roomFault room blockSize); same = λ d. refl }
-
-abbrev any-by : (k : ℤ) (room : ℕ) → ByCount (anyDense k room)
-any-by k room = record { asked = λ _. rangeFault k (roomFault room blockSize); same = λ d. refl }
-
-abbrev sheet-by : (c room : ℕ) → ByCount (sheetFor c room)
-sheet-by c room = record { asked = λ m. numberFault m c (roomFault room (sheetSize m)); same = λ d. refl }
-
-abbrev check-by : (c : ℕ) (b : List ℕ) (z : ℤ) → ByCount (check c b z)
-check-by c b z = record { asked = λ m. numberFault m c (roomFault (length b) (sheetSize m)); same = λ d. refl }
+use Rattle.counter.proofs.Outcomes.{refuses, answers}
 
 -- ---- no fault: the net can be counted, and there is room
 
@@ -69,13 +52,10 @@ range-enough first z = first .fine z .room-for
 -- ---- look over
 
 module _ {x : Reading} {code n m : ℕ} (stands : CountsFor x code n m) {before : List ℕ} {Fine : Type 0} {r : ℕ}
-    (first : FirstOf code (roomFault (length before) numbersSize) Fine r) where
-  pub look-over-refuses : (r ≡ 0 → ⊥) → Answers (lookOver (length before)) x r before before
-  look-over-refuses h = refuses (look-over-by (length before)) stands first h
-
+    (first : FirstOf code (lookOver (length before) .fault n m) Fine r) where
   pub looked-over : r ≡ 0 → {after : List ℕ} → after ≡ over (two n ++ two m) before → Answers (lookOver (length before)) x 0 before after
   looked-over z w =
-      answers (look-over-by (length before)) stands first z (answered (two n ++ two m))
+      answers stands first z (answered (two n ++ two m))
       (ap₂ (λ (i j : ℕ). answered (two i ++ two j)) (sym (is .objects-are)) (sym (is .constraints-are))) w
     where
       is : AcceptedAs x n m
@@ -116,14 +96,11 @@ module _ {a : NetArrays} {c : ℕ} {b : Block} (block-in : BlockIn a c b) where
 -- ---- one constraint
 
 module _ {x : Reading} {a : NetArrays} (stands : NetFor x a) {c : ℕ} {before : List ℕ} {Fine : Type 0} {r : ℕ}
-    (first : FirstOf (a .code) (numberFault (a .constraints) c (roomFault (length before) blockSize)) Fine r) where
-  pub one-refuses : (r ≡ 0 → ⊥) → Answers (oneConstraint c (length before)) x r before before
-  one-refuses h = refuses (one-by c (length before)) (stands .counts-for) first h
-
+    (first : FirstOf (a .code) (oneConstraint c (length before) .fault (a .objects) (a .constraints)) Fine r) where
   pub one-answered : r ≡ 0 → {top : Solution} → SolvedIn a c top → {b : Block} → b ≡ blockFrom c top
       → {after : List ℕ} → after ≡ over (blockBytes b) before → Answers (oneConstraint c (length before)) x 0 before after
   one-answered z {top} solved {b} is w =
-      answers (one-by c (length before)) (stands .counts-for) first z (answered (blockBytes b))
+      answers (stands .counts-for) first z (answered (blockBytes b))
       (block-for (record { top = top; solved = solved; block-is = is }) stands (first .clean z)) w
 
 -- ---- any dense: y is K as the code hands it on
@@ -136,17 +113,17 @@ pub any-writable : {a : NetArrays} {y : ℤ} {f : Finding} → Sought a y f → 
 any-writable sought e = let b = sought .yes e .block-in in writable (b .solved) (b .block-is)
 
 module _ {x : Reading} {a : NetArrays} (stands : NetFor x a) {y k : ℤ} (same : y ≡ k) {before : List ℕ} {Fine : Type 0} {r : ℕ}
-    (first : FirstOf (a .code) (rangeFault y (roomFault (length before) blockSize)) Fine r) where
+    (first : FirstOf (a .code) (anyDense y (length before) .fault (a .objects) (a .constraints)) Fine r) where
   for-k : {code : ℕ} {after : List ℕ} → Answers (anyDense y (length before)) x code before after → Answers (anyDense k (length before)) x code before after
   for-k {code} {after} b = subst (λ (z : ℤ). Answers (anyDense z (length before)) x code before after) same b
 
   pub any-refuses : (r ≡ 0 → ⊥) → Answers (anyDense k (length before)) x r before before
-  any-refuses h = for-k (refuses (any-by y (length before)) (stands .counts-for) first h)
+  any-refuses h = for-k (refuses (stands .counts-for) first h)
 
   module _ (z : r ≡ 0) {f : Finding} (sought : Sought a y f) where
     found : f .found ≡ true → {after : List ℕ} → after ≡ over (blockBytes (f .block)) before → Answers (anyDense y (length before)) x 0 before after
     found e w =
-        answers (any-by y (length before)) (stands .counts-for) first z (answered (blockBytes (f .block)))
+        answers (stands .counts-for) first z (answered (blockBytes (f .block)))
         (inl
         (record {
           constraint = f .block .constraint;
@@ -157,7 +134,7 @@ module _ {x : Reading} {a : NetArrays} (stands : NetFor x a) {y k : ℤ} (same :
 
     none : f .found ≡ false → Answers (anyDense y (length before)) x 32 before before
     none e =
-        answers (any-by y (length before)) (stands .counts-for) first z (says 32)
+        answers (stands .counts-for) first z (says 32)
         (inr (record { none = subst (λ (g : Net). NoneAt g y) (sym (stands .net-is (first .clean z))) (sought .no e); is = refl })) refl
 
     pub any-answered : {code : ℕ} {after : List ℕ} → FindingWritten f before code after
@@ -173,14 +150,11 @@ module _ {x : Reading} {a : NetArrays} (stands : NetFor x a) {y k : ℤ} (same :
 -- ---- the sheet
 
 module _ {x : Reading} {a : NetArrays} (stands : NetFor x a) {c : ℕ} {before : List ℕ} {Fine : Type 0} {r : ℕ}
-    (first : FirstOf (a .code) (numberFault (a .constraints) c (roomFault (length before) (sheetSize (a .constraints)))) Fine r) where
-  pub sheet-refuses : (r ≡ 0 → ⊥) → Answers (sheetFor c (length before)) x r before before
-  sheet-refuses h = refuses (sheet-by c (length before)) (stands .counts-for) first h
-
+    (first : FirstOf (a .code) (sheetFor c (length before) .fault (a .objects) (a .constraints)) Fine r) where
   pub sheet-answered : r ≡ 0 → {top : Solution} {after : List ℕ} → SolvedIn a c top
       → SheetWritten (a .constraints) (top .shares) before after → Answers (sheetFor c (length before)) x 0 before after
   sheet-answered z {top} solved written =
-      answers (sheet-by c (length before)) (stands .counts-for) first z (answered (written .bytes))
+      answers (stands .counts-for) first z (answered (written .bytes))
       (record {
         bytes = written .bytes;
         long = written .long ∙ ap sheetSize (sym (stands .counts-for .accepted-as (first .clean z) .constraints-are));
@@ -207,15 +181,12 @@ module _ {x : Reading} {a : NetArrays} (stands : NetFor x a) {c : ℕ} {before :
 -- ---- the check
 
 module _ {x : Reading} {a : NetArrays} (stands : NetFor x a) {c : ℕ} {b : List ℕ} {claimed : ℤ} {Fine : Type 0} {r : ℕ}
-    (first : FirstOf (a .code) (numberFault (a .constraints) c (roomFault (length b) (sheetSize (a .constraints)))) Fine r) where
-  pub check-refuses : (r ≡ 0 → ⊥) → Answers (check c b claimed) x r [] []
-  check-refuses h = refuses (check-by c b claimed) (stands .counts-for) first h
-
+    (first : FirstOf (a .code) (check c b claimed .fault (a .objects) (a .constraints)) Fine r) where
   -- y is the number claimed as the code hands it on
   module _ (z : r ≡ 0) {y : ℤ} (same : y ≡ claimed) {t : Bool} (checked : Checked a c b y t) where
     pub check-shows : t ≡ true → Answers (check c b claimed) x 0 [] []
     check-shows e =
-        answers (check-by c b claimed) (stands .counts-for) first z (says 0)
+        answers (stands .counts-for) first z (says 0)
         (inl (shown-by (stands .net-is (first .clean z)), refl)) refl
       where
         shown-by : {d : Drawing} → weighed d ≡ netHeld a → Shows d c b claimed
@@ -227,7 +198,7 @@ module _ {x : Reading} {a : NetArrays} (stands : NetFor x a) {c : ℕ} {b : List
 
     pub check-shows-not : t ≡ false → Answers (check c b claimed) x 33 [] []
     check-shows-not e =
-        answers (check-by c b claimed) (stands .counts-for) first z (says 33)
+        answers (stands .counts-for) first z (says 33)
         (inr (not-shown (stands .net-is (first .clean z)), refl)) refl
       where
         not-shown : {d : Drawing} → weighed d ≡ netHeld a → Shows d c b claimed → ⊥

@@ -7,7 +7,7 @@ use lib.IntN.{ℤ, subℕ}
 use lib.ListN.{length}
 use Rattle.density.specs.Sum.{sum}
 use Rattle.density.specs.Net.{Net}
-use Rattle.density.specs.Sheet.{Sheet, shares, gets, Sound, claim}
+use Rattle.density.specs.Sheet.{Sheet, gives, gets, Sound, claim}
 use Rattle.limits.specs.Limits.{mostObjects, mostConstraints, mostWeight}
 use Rattle.routes.specs.At.{at}
 use Rattle.routes.specs.Arrays.{netIn}
@@ -41,15 +41,15 @@ pub record Adding (m : ℕ) (ends takes sheet : List ℕ) : Type 0 where
 
 -- the constraints below e fit their weights, and add up so
 pub record AddedUp (d : Net) (s : Sheet) (e total given : ℕ) (load : List ℕ) : Type 0 where
-  pub fits : (i : ℕ) → i < e → shares s i ≤ d .takes i
+  pub fits : (i : ℕ) → i < e → gives s i ≤ d .takes i
   pub total-is : total ≡ sum e (d .takes)
-  pub given-is : given ≡ sum e (shares s)
+  pub given-is : given ≡ sum e (gives s)
   pub load-is : (v : ℕ) → v < mostObjects → at load v ≡ sum e (gets d s v)
 
 -- the answer of adding up: all m constraints, or one that does not fit
 pub record Tallied (m : ℕ) (ends takes sheet : List ℕ) (fits : Bool) (total given : ℕ) (load : List ℕ) : Type 0 where
   pub added : fits ≡ true → AddedUp (constraintsOf m ends takes) (sheetIn sheet) m total given load
-  pub else : fits ≡ false → ((e : ℕ) → e < m → shares (sheetIn sheet) e ≤ at takes e) → ⊥
+  pub else : fits ≡ false → ((e : ℕ) → e < m → gives (sheetIn sheet) e ≤ at takes e) → ⊥
   pub total-low : total ≤ mostWeight * mostConstraints
   pub given-low : given ≤ mostWeight * mostConstraints
 

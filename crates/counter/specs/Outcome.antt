@@ -19,15 +19,19 @@ says n = record { code = n; bytes = [] }
 abbrev pub answered : List ℕ → Outcome
 answered b = record { code = 0; bytes = b }
 
--- a question about a drawing: the first fault of what is asked, 0 for none, and what it comes to where there is none
+-- a question about a drawing: the first fault of what is asked, by how many objects and constraints there are, 0 for none; and what it
+-- comes to where there is none
 pub record Question : Type 1 where
-  pub fault : Drawing → ℕ
+  pub fault : ℕ → ℕ → ℕ
   pub answer : Drawing → Outcome → Type 0
+
+abbrev pub askedFault : Question → Drawing → ℕ
+askedFault q d = q .fault (length (d .objects)) (length (d .constraints))
 
 -- the first fault of the call: that of the drawing's bytes, then that of what is asked; 0 for none
 abbrev pub firstFault : Question → Reading → ℕ
 firstFault q (refused n) = n
-firstFault q (accepted d) = q .fault d
+firstFault q (accepted d) = askedFault q d
 
 -- a fault is said, and where there is none the rest holds
 abbrev pub Unless : ℕ → Outcome → Type 0 → Type 0
@@ -37,7 +41,7 @@ Unless (suc n) o rest = o ≡ says (suc n)
 -- o is what question q comes to, by what was read
 abbrev pub Fits : Question → Reading → Outcome → Type 0
 Fits q (refused n) o = o ≡ says n
-Fits q (accepted d) o = Unless (q .fault d) o (q .answer d o)
+Fits q (accepted d) o = Unless (askedFault q d) o (q .answer d o)
 
 -- bytes written over the front of a buffer; "the rest of a longer buffer stays"
 abbrev pub over : List ℕ → List ℕ → List ℕ

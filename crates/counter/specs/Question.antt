@@ -1,4 +1,4 @@
--- The five questions. 01, 'The questions' and 'What is turned away, in order'; `room` is the length of the buffer lent. Assumes nothing.
+-- The questions. 01, 'The questions' and 'What is turned away, in order'; `room` is the length of the buffer lent. Assumes nothing.
 use mathlib.Core.Path.{_≡_}
 use mathlib.Core.Logic.{_⊎_}
 use mathlib.Core.List.{List, _++_}
@@ -21,7 +21,7 @@ abbrev pub counts : Drawing → List ℕ
 counts d = two (length (d .objects)) ++ two (length (d .constraints))
 
 abbrev pub lookOver : ℕ → Question
-lookOver room = record { fault = λ d. roomFault room numbersSize; answer = λ d o. o ≡ answered (counts d) }
+lookOver room = record { fault = λ n m. roomFault room numbersSize; answer = λ d o. o ≡ answered (counts d) }
 
 -- ---- one constraint: "block with top density and answer set"
 
@@ -34,7 +34,7 @@ pub record BlockOf (d : Drawing) (c : ℕ) (o : Outcome) : Type 0 where
 abbrev pub oneConstraint : ℕ → ℕ → Question
 oneConstraint c room =
     record {
-      fault = λ d. numberFault (length (d .constraints)) c (roomFault room blockSize);
+      fault = λ n m. numberFault m c (roomFault room blockSize);
       answer = λ d o. BlockOf d c o;
     }
 
@@ -50,7 +50,7 @@ pub record NoBlock (d : Drawing) (k : ℤ) (o : Outcome) : Type 0 where
   pub is : o ≡ says 32
 
 abbrev pub anyDense : ℤ → ℕ → Question
-anyDense k room = record { fault = λ d. rangeFault k (roomFault room blockSize); answer = λ d o. LowestBlock d k o ⊎ NoBlock d k o }
+anyDense k room = record { fault = λ n m. rangeFault k (roomFault room blockSize); answer = λ d o. LowestBlock d k o ⊎ NoBlock d k o }
 
 -- ---- sheet: "a sound sheet whose claim is the top density"
 
@@ -64,7 +64,7 @@ pub record SheetOf (d : Drawing) (c : ℕ) (o : Outcome) : Type 0 where
 abbrev pub sheetFor : ℕ → ℕ → Question
 sheetFor c room =
     record {
-      fault = λ d. numberFault (length (d .constraints)) c (roomFault room (sheetSize (length (d .constraints))));
+      fault = λ n m. numberFault m c (roomFault room (sheetSize m));
       answer = λ d o. SheetOf d c o;
     }
 
@@ -77,6 +77,6 @@ pub record Shows (d : Drawing) (c : ℕ) (b : List ℕ) (z : ℤ) : Type 0 where
 abbrev pub check : ℕ → List ℕ → ℤ → Question
 check c b z =
     record {
-      fault = λ d. numberFault (length (d .constraints)) c (roomFault (length b) (sheetSize (length (d .constraints))));
+      fault = λ n m. numberFault m c (roomFault (length b) (sheetSize m));
       answer = λ d o. (Shows d c b z × (o ≡ says 0)) ⊎ ((Shows d c b z → ⊥) × (o ≡ says 33));
     }

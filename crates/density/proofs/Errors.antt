@@ -11,7 +11,7 @@ use Rattle.density.specs.Sum.{sum, counted}
 use Rattle.density.specs.Net.{Net, Set, Side, first, second}
 use Rattle.density.specs.Density.{takenBy, free, density, Dense, NoneDense}
 use Rattle.density.specs.Top.{Reaches, Top, AnswerSet}
-use Rattle.density.specs.Sheet.{Sheet, shares, received, Sound, total, given, remainder, claim}
+use Rattle.density.specs.Sheet.{Sheet, gives, received, Sound, total, given, remainder, claim}
 use Rattle.density.specs.Example.{Example, exampleNet, setOf, points, distance, minus, objectsD, own, B, C, I, J, L}
 use Rattle.density.specs.Correct.{Correct, resultOf}
 use Rattle.density.proofs.OneAnswer.{answer-top, tops-agree, none-no-set, no-set-none-dense}
@@ -92,13 +92,13 @@ abbrev full : ℕ → Bool
 full v = eqb (received (exampleNet stuckDrawing) greedy v) 2 || (eqb v 0 || eqb v 1)
 
 -- nothing more can be given: a constraint with weight left has two full ends
-pub greedy-is-stuck : (e : ℕ) → e < 4 → shares greedy e < exampleNet stuckDrawing .takes e
+pub greedy-is-stuck : (e : ℕ) → e < 4 → gives greedy e < exampleNet stuckDrawing .takes e
     → T (full (exampleNet stuckDrawing .end first e) && full (exampleNet stuckDrawing .end second e))
 unfolding received sum
 greedy-is-stuck e l left =
-    implied (ltb (shares greedy e) (d .takes e)) (full (d .end first e) && full (d .end second e))
-    (below-gives 4 (λ e. implies (ltb (shares greedy e) (d .takes e)) (full (d .end first e) && full (d .end second e))) tt e l)
-    (lt→ltb (shares greedy e) (d .takes e) left)
+    implied (ltb (gives greedy e) (d .takes e)) (full (d .end first e) && full (d .end second e))
+    (below-gives 4 (λ e. implies (ltb (gives greedy e) (d .takes e)) (full (d .end first e) && full (d .end second e))) tt e l)
+    (lt→ltb (gives greedy e) (d .takes e) left)
   where
     d : Net
     d = exampleNet stuckDrawing
@@ -107,7 +107,7 @@ pub greedy-is-sound : Sound (exampleNet stuckDrawing) 0 greedy
 unfolding received sum
 greedy-is-sound =
     record {
-      fits = λ e l. leb→le (shares greedy e) (d .takes e) (below-gives 4 (λ e. leb (shares greedy e) (d .takes e)) tt e l);
+      fits = λ e l. leb→le (gives greedy e) (d .takes e) (below-gives 4 (λ e. leb (gives greedy e) (d .takes e)) tt e l);
       room = λ v l. leb→le (received d greedy v) (d .weight v) (below-gives 5 (λ v. leb (received d greedy v) (d .weight v)) tt v l);
       bare = bare;
     }

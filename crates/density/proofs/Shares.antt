@@ -11,7 +11,7 @@ use Rattle.density.specs.Sum.{counted}
 use Rattle.density.specs.Net.{Net, Proper, Set, Side, first, second, holds, Inside}
 use Rattle.density.specs.Density.{takenBy, free, density}
 use Rattle.density.specs.Top.{Reaches, Bound, AnswerSet}
-use Rattle.density.specs.Sheet.{Sheet, shares, gets, received, Sound, total, given, remainder, endsWeigh, claim}
+use Rattle.density.specs.Sheet.{Sheet, gives, gets, received, Sound, total, given, remainder, endsWeigh, claim}
 use Rattle.density.specs.Closed.{Closed, AllFull}
 use Rattle.density.proofs.Sums.{sum-same}
 use Rattle.density.proofs.Integers.{le-of-cross, eq-of-cross, cross-of-eq, sub-less}
@@ -31,20 +31,20 @@ module _ (d : Net) (s r : Sheet) (same : (i : Side) (e : ℕ) → e < d .constra
       (λ e l.
       ap₂ (λ (x y : ℕ). counted (eqb (d .end first e) v) x + counted (eqb (d .end second e) v) y) (same first e l) (same second e l))
 
-  shares-same : (e : ℕ) → e < d .constraints → shares s e ≡ shares r e
-  shares-same e l = ap₂ _+_ (same first e l) (same second e l)
+  gives-same : (e : ℕ) → e < d .constraints → gives s e ≡ gives r e
+  gives-same e l = ap₂ _+_ (same first e l) (same second e l)
 
   pub sound-same : (c : ℕ) → Sound d c s → Sound d c r
   sound-same c sound =
       record {
-        fits = λ e l. subst (λ (x : ℕ). x ≤ d .takes e) (shares-same e l) (sound .fits e l);
+        fits = λ e l. subst (λ (x : ℕ). x ≤ d .takes e) (gives-same e l) (sound .fits e l);
         room = λ v l. subst (λ (x : ℕ). x ≤ d .weight v) (received-same v) (sound .room v l);
         bare = λ i. sym (received-same (d .end i c)) ∙ sound .bare i;
       }
 
   pub claim-same : (c : ℕ) → claim d c s ≡ claim d c r
   unfolding claim remainder given
-  claim-same c = ap (λ (x : ℕ). subℕ (total d) x -ℤ pos (endsWeigh d c)) (sum-same (d .constraints) (shares s) (shares r) shares-same)
+  claim-same c = ap (λ (x : ℕ). subℕ (total d) x -ℤ pos (endsWeigh d c)) (sum-same (d .constraints) (gives s) (gives r) gives-same)
 
 module _ (d : Net) (ok : Proper d) (c : ℕ) (l : c < d .constraints) (s : Sheet) (sound : Sound d c s) where
   -- "A sound sheet proves that no set holding c is denser than its claim."

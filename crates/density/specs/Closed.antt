@@ -4,12 +4,12 @@ use mathlib.Core.Logic.{_≢_}
 use Prim.Native.Nat.{ℕ, _<_}
 use lib.Dec.{T}
 use Rattle.density.specs.Net.{Net, Set, Side, first, second, holds}
-use Rattle.density.specs.Sheet.{Sheet, shares, received}
+use Rattle.density.specs.Sheet.{Sheet, gives, received}
 
 -- M contains every object that a route comes to, if it starts anywhere or from an object of M
 pub record Closed (d : Net) (s : Sheet) (M : Set) : Type 0 where
   -- "A route starts at a constraint with weight left; from a constraint it may go to either of its objects"
-  pub starts : (e : ℕ) → e < d .constraints → shares s e < d .takes e → T (holds d M e)
+  pub starts : (e : ℕ) → e < d .constraints → gives s e < d .takes e → T (holds d M e)
   -- "and from a full object to any constraint that has put a share there"
   pub goes-on : (i : Side) (e : ℕ) → e < d .constraints → T (M (d .end i e)) → 0 < s i e → T (holds d M e)
 

@@ -10,9 +10,9 @@ use Rattle.density.specs.Net.{Net, Side, first, second}
 abbrev pub Sheet : Type 0
 Sheet = Side → ℕ → ℕ
 
--- "the two shares of a constraint", added up
-abbrev pub shares : Sheet → ℕ → ℕ
-shares s e = s first e + s second e
+-- what the constraint e gives: "the two shares of a constraint", added up
+abbrev pub gives : Sheet → ℕ → ℕ
+gives s e = s first e + s second e
 
 -- what the object v receives from the constraint e
 abbrev pub gets : Net → Sheet → ℕ → ℕ → ℕ
@@ -25,7 +25,7 @@ received d s v = sum (d .constraints) (gets d s v)
 -- "It is sound when"
 pub record Sound (d : Net) (c : ℕ) (s : Sheet) : Type 0 where
   -- "the two shares of a constraint add up to no more than its weight"
-  pub fits : (e : ℕ) → e < d .constraints → shares s e ≤ d .takes e
+  pub fits : (e : ℕ) → e < d .constraints → gives s e ≤ d .takes e
   -- "the shares received by an object add up to no more than its weight"
   pub room : (v : ℕ) → v < d .objects → received d s v ≤ d .weight v
   -- "the two ends of c receive nothing"
@@ -37,7 +37,7 @@ total d = sum (d .constraints) (d .takes)
 
 -- "all shares"
 unfoldable pub given : Net → Sheet → ℕ
-given d s = sum (d .constraints) (shares s)
+given d s = sum (d .constraints) (gives s)
 
 -- "The remainder is the sum of all constraint weights less all shares."
 unfoldable pub remainder : Net → Sheet → ℤ

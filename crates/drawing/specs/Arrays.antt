@@ -18,14 +18,17 @@ pub record Arrays : Type 0 where
   pub constraintKinds : List ℕ
   pub constraintStated : List ℕ
 
-abbrev pub arraysOf : Entries → Arrays
-arraysOf r = record {
-  ends = r .ends;
-  objectKinds = r .«object_kinds»;
-  objectStated = r .«object_stated»;
-  constraintKinds = r .«constraint_kinds»;
-  constraintStated = r .«constraint_stated»;
+abbrev pub arrays : List ℕ → List ℕ → List ℕ → List ℕ → List ℕ → Arrays
+arrays ends ok os ck cs = record {
+  ends = ends;
+  objectKinds = ok;
+  objectStated = os;
+  constraintKinds = ck;
+  constraintStated = cs;
 }
+
+abbrev pub arraysOf : Entries → Arrays
+arraysOf r = arrays (r .ends) (r .«object_kinds») (r .«object_stated») (r .«constraint_kinds») (r .«constraint_stated»)
 
 -- object i and constraint e of the arrays: constraint e has its ends at 2e and 2e + 1
 abbrev pub objectIn : Arrays → ℕ → Object

@@ -12,7 +12,7 @@ use lib.ListN.{length, set, replicate, length-set, length-replicate, getD-replic
 use lib.Seq.{getD-set-same, getD-set-other}
 use Rattle.density.specs.Sum.{sum, counted}
 use Rattle.density.specs.Net.{Net, first, second}
-use Rattle.density.specs.Sheet.{Sheet, shares, gets}
+use Rattle.density.specs.Sheet.{Sheet, gives, gets}
 use Rattle.density.proofs.Sums.{sum-le, counted-le}
 use Rattle.limits.specs.Limits.{mostObjects, mostConstraints, mostWeight}
 use Rattle.routes.specs.At.{at}
@@ -69,12 +69,12 @@ module _ {d : Net} {s : Sheet} {e total given : ℕ} {load : List ℕ} (added : 
   total-small = omega (arith, added .total-is, sum-light e (d .takes) light)
 
   pub given-small : given ≤ mostWeight * e
-  given-small = omega (arith, total-small, added .total-is, added .given-is, sum-le e (shares s) (d .takes) (added .fits))
+  given-small = omega (arith, total-small, added .total-is, added .given-is, sum-le e (gives s) (d .takes) (added .fits))
 
   pub load-small : (v : ℕ) → v < mostObjects → at load v ≤ mostWeight * e
-  load-small v l = omega (arith, given-small, added .given-is, added .load-is v l, sum-le e (gets d s v) (shares s) (λ i _. gets-le i))
+  load-small v l = omega (arith, given-small, added .given-is, added .load-is v l, sum-le e (gets d s v) (gives s) (λ i _. gets-le i))
     where
-      gets-le : (i : ℕ) → gets d s v i ≤ shares s i
+      gets-le : (i : ℕ) → gets d s v i ≤ gives s i
       gets-le i = omega (arith, counted-le (eqb (d .end first i) v) (s first i), counted-le (eqb (d .end second i) v) (s second i))
 
 module _ {m : ℕ} {ends takes sheet : List ℕ} (pre : Adding m ends takes sheet) {e total given : ℕ} {load : List ℕ}
@@ -157,7 +157,7 @@ module _ {m : ℕ} {ends takes sheet : List ℕ} (pre : Adding m ends takes shee
                     record {
                       fits = λ i h. go i h (ℕ-discrete i e);
                       total-is = omega (arith, t .added .total-is, sum-more e (at takes));
-                      given-is = omega (arith, t .added .given-is, sum-more e (shares (sheetIn sheet)));
+                      given-is = omega (arith, t .added .given-is, sum-more e (gives (sheetIn sheet)));
                       load-is =
                           λ v h.
                           omega (
@@ -172,6 +172,6 @@ module _ {m : ℕ} {ends takes sheet : List ℕ} (pre : Adding m ends takes shee
                 low = omega arith;
               }
             where
-              go : (i : ℕ) → i < e + 1 → Dec (i ≡ e) → shares (sheetIn sheet) i ≤ at takes i
-              go i h (yes same) = subst (λ (k : ℕ). shares (sheetIn sheet) k ≤ at takes k) (sym same) (omega arith)
+              go : (i : ℕ) → i < e + 1 → Dec (i ≡ e) → gives (sheetIn sheet) i ≤ at takes i
+              go i h (yes same) = subst (λ (k : ℕ). gives (sheetIn sheet) k ≤ at takes k) (sym same) (omega arith)
               go i h (no other) = t .added .fits i (omega arith)

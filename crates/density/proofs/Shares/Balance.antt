@@ -12,7 +12,7 @@ use lib.Dec.{T, eqb}
 use Rattle.density.specs.Sum.{sum, counted}
 use Rattle.density.specs.Net.{Net, Proper, Set, Side, first, second, holds}
 use Rattle.density.specs.Density.{takenBy, free}
-use Rattle.density.specs.Sheet.{Sheet, shares, gets, received, Sound, total, given, endsWeigh}
+use Rattle.density.specs.Sheet.{Sheet, gives, gets, received, Sound, total, given, endsWeigh}
 use Rattle.density.specs.Closed.{Closed, AllFull}
 use Rattle.density.proofs.Tests.{tested}
 use Rattle.density.proofs.Sums.{sum-same, sum-le, sum-add, sum-gap, sum-swap, sum-one, sum-at}
@@ -175,14 +175,14 @@ module _ (d : Net) (ok : Proper d) (c : ℕ) (l : c < d .constraints) (s : Sheet
 
   -- over the constraints
   lesser : ℕ → ℕ
-  lesser e = takenAt d S e + shares s e
+  lesser e = takenAt d S e + gives s e
 
   greater : ℕ → ℕ
   greater e = d .takes e + lands d s S e
 
   lesser-sum : sum (d .constraints) lesser ≡ takenBy d S + given d s
   unfolding lesser takenBy given
-  lesser-sum = sum-add (d .constraints) (takenAt d S) (shares s)
+  lesser-sum = sum-add (d .constraints) (takenAt d S) (gives s)
 
   greater-sum : sum (d .constraints) greater ≡ total d + landed d s S
   unfolding greater total landed

@@ -1,7 +1,8 @@
 -- `brentivex::check_sheet::brentivex_check` meets its contract. Assumes nothing.
 use native.Mathlib.Omega.{arith}
 use mir.Facts.{toZ-ofZ}
-use Rattle.counter.proofs.Statements.{can-count, check-refuses, check-shows, check-shows-not}
+use Rattle.counter.proofs.Outcomes.{refuses}
+use Rattle.counter.proofs.Statements.{can-count, check-shows, check-shows-not}
 use borrow.Author.Needs.{needs}
 use Rattle.brentivex.proofs.check_sheet.brentivex_check.Statement.{statement}
 use Rattle.brentivex.proofs.check_sheet.brentivex_check.Tie as tie
@@ -16,7 +17,7 @@ number-fault-requires : tie.Need-number-fault-requires
 number-fault-requires c κs = search needs
 
 returns : tie.Need-returns
-returns c = search check-refuses
+returns c = search refuses
 
 shows-requires : tie.Need-shows-requires
 shows-requires c κs =

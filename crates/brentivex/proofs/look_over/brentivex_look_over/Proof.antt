@@ -1,5 +1,6 @@
 -- `brentivex::look_over::brentivex_look_over` meets its contract. Assumes nothing.
-use Rattle.counter.proofs.Statements.{room-enough, look-over-refuses, looked-over}
+use Rattle.counter.proofs.Outcomes.{refuses}
+use Rattle.counter.proofs.Statements.{room-enough, looked-over}
 use borrow.Author.Needs.{needs}
 use Rattle.brentivex.proofs.look_over.brentivex_look_over.Statement.{statement}
 use Rattle.brentivex.proofs.look_over.brentivex_look_over.Tie as tie
@@ -11,7 +12,7 @@ room-fault-requires : tie.Need-room-fault-requires
 room-fault-requires c κs = search needs
 
 returns : tie.Need-returns
-returns c = search look-over-refuses
+returns c = search refuses
 
 put-numbers-requires : tie.Need-put-numbers-requires
 put-numbers-requires c κs = search (needs, room-enough)

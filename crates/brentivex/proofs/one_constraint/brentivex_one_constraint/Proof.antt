@@ -1,6 +1,7 @@
 -- `brentivex::one_constraint::brentivex_one_constraint` meets its contract. Assumes nothing.
 use native.Mathlib.Omega.{arith}
-use Rattle.counter.proofs.Statements.{can-count, number-enough, writable, one-refuses, one-answered}
+use Rattle.counter.proofs.Outcomes.{refuses}
+use Rattle.counter.proofs.Statements.{can-count, number-enough, writable, one-answered}
 use borrow.Author.Needs.{needs}
 use Rattle.brentivex.proofs.one_constraint.brentivex_one_constraint.Statement.{statement}
 use Rattle.brentivex.proofs.one_constraint.brentivex_one_constraint.Tie as tie
@@ -12,7 +13,7 @@ number-fault-requires : tie.Need-number-fault-requires
 number-fault-requires c κs = search needs
 
 returns : tie.Need-returns
-returns c = search one-refuses
+returns c = search refuses
 
 one-requires : tie.Need-one-requires
 one-requires c κs =

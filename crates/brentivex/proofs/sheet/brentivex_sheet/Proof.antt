@@ -1,6 +1,7 @@
 -- `brentivex::sheet::brentivex_sheet` meets its contract. Assumes nothing.
 use native.Mathlib.Omega.{arith}
-use Rattle.counter.proofs.Statements.{can-count, number-enough, sheet-refuses, sheet-answered}
+use Rattle.counter.proofs.Outcomes.{refuses}
+use Rattle.counter.proofs.Statements.{can-count, number-enough, sheet-answered}
 use borrow.Author.Needs.{needs}
 use Rattle.brentivex.proofs.sheet.brentivex_sheet.Statement.{statement}
 use Rattle.brentivex.proofs.sheet.brentivex_sheet.Tie as tie
@@ -15,7 +16,7 @@ number-fault-requires : tie.Need-number-fault-requires
 number-fault-requires c κs = search needs
 
 returns : tie.Need-returns
-returns c = search sheet-refuses
+returns c = search refuses
 
 one-requires : tie.Need-one-requires
 one-requires c κs =
