@@ -25,6 +25,7 @@ pub record Question : Type 1 where
   pub fault : ℕ → ℕ → ℕ
   pub answer : Drawing → Outcome → Type 0
 
+-- the first fault of what is asked about a drawing
 abbrev pub askedFault : Question → Drawing → ℕ
 askedFault q d = q .fault (length (d .objects)) (length (d .constraints))
 

@@ -44,9 +44,7 @@ fn add_up(m: usize, ends: &[u16; ENDS], takes: &[u8; CONSTRAINTS], sheet: &[u8])
     while e < m {
         let x = two_at(sheet, 4 * e);
         let y = two_at(sheet, 4 * e + 2);
-        let first = two_bytes(x);
-        let second = two_bytes(y);
-        let both = first + second;
+        let both = two_bytes(x) + two_bytes(y);
         let weight = one_byte(takes[e]);
         if both > weight {
             return Tally {
@@ -56,8 +54,9 @@ fn add_up(m: usize, ends: &[u16; ENDS], takes: &[u8; CONSTRAINTS], sheet: &[u8])
                 load,
             };
         }
-        receive(two_bytes(ends[2 * e]), x, &mut load);
-        receive(two_bytes(ends[2 * e + 1]), y, &mut load);
+        let pair = ends_of(e, ends);
+        receive(pair.first, x, &mut load);
+        receive(pair.second, y, &mut load);
         total += weight;
         given += both;
         e += 1;

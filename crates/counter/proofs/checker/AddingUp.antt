@@ -47,6 +47,8 @@ pub record Tallying (m : ℕ) (ends takes sheet : List ℕ) (e total given : ℕ
   pub added : AddedUp (constraintsOf m ends takes) (sheetIn sheet) e total given load
   pub long : length load ≡ mostObjects
   pub low : e ≤ m
+  pub total-low : total ≤ mostWeight * mostConstraints
+  pub given-low : given ≤ mostWeight * mostConstraints
 
 pub none-added : (m : ℕ) (ends takes sheet : List ℕ) → Tallying m ends takes sheet 0 0 0 (replicate mostObjects 0)
 unfolding sum
@@ -61,6 +63,8 @@ none-added m ends takes sheet =
           };
       long = length-replicate {A = ℕ} mostObjects 0;
       low = omega arith;
+      total-low = omega arith;
+      given-low = omega arith;
     }
 
 -- what is added up stays small
@@ -82,10 +86,6 @@ module _ {m : ℕ} {ends takes sheet : List ℕ} (pre : Adding m ends takes shee
   light : (i : ℕ) → i < e → at takes i ≤ mostWeight
   light i h = pre .light i (omega (arith, t .low))
 
-  pub sums-low : (total ≤ mostWeight * mostConstraints) × (given ≤ mostWeight * mostConstraints)
-  sums-low =
-      (omega (arith, t .low, pre .few, total-small (t .added) light), omega (arith, t .low, pre .few, given-small (t .added) light))
-
   load-low : (v : ℕ) → v < mostObjects → at load v ≤ mostWeight * mostConstraints
   load-low v h = omega (arith, t .low, pre .few, load-small (t .added) light v h)
 
@@ -95,8 +95,8 @@ module _ {m : ℕ} {ends takes sheet : List ℕ} (pre : Adding m ends takes shee
       record {
         added = λ _. subst (λ (k : ℕ). AddedUp (constraintsOf m ends takes) (sheetIn sheet) k total given load) all (t .added);
         else = λ f. absurd (true≢false f);
-        total-low = sums-low .0;
-        given-low = sums-low .1;
+        total-low = t .total-low;
+        given-low = t .given-low;
       }
     where
       all : e ≡ m
@@ -117,27 +117,27 @@ module _ {m : ℕ} {ends takes sheet : List ℕ} (pre : Adding m ends takes shee
         record {
           added = λ f. absurd (false≢true f);
           else = λ _ all. omega (arith, all e l);
-          total-low = sums-low pre t .0;
-          given-low = sums-low pre t .1;
+          total-low = t .total-low;
+          given-low = t .given-low;
         }
 
     -- the two shares fit, and the two ends a and b receive them
     module _ (fits : first + second ≤ weight) {a : ℕ} (a-is : a ≡ at ends (2 * e)) where
-      a-low : a < mostObjects
+      pub a-low : a < mostObjects
       a-low = end-low (2 * e) a (omega arith) a-is
 
-      pub first-fits : (a < mostObjects) × (at load a + x < 65536)
-      first-fits = (a-low, omega (arith, load-low pre t a a-low, pre .light e l))
+      pub first-fits : at load a + x < 65536
+      first-fits = omega (arith, load-low pre t a a-low, pre .light e l)
 
       module _ {next : List ℕ} (next-is : next ≡ set load a (at load a + x)) {b : ℕ} (b-is : b ≡ at ends (2 * e + 1)) where
         next-at : (v : ℕ) → at next v ≡ at load v + counted (eqb a v) x
         next-at v = ap (λ (k : List ℕ). at k v) next-is ∙ received-more load a x v (omega (arith, a-low, t .long))
 
-        b-low : b < mostObjects
+        pub b-low : b < mostObjects
         b-low = end-low (2 * e + 1) b (omega arith) b-is
 
-        pub second-fits : (b < mostObjects) × (at next b + y < 65536)
-        second-fits = (b-low, omega (arith, next-at b, counted-le (eqb a b) x, load-low pre t b b-low, pre .light e l))
+        pub second-fits : at next b + y < 65536
+        second-fits = omega (arith, next-at b, counted-le (eqb a b) x, load-low pre t b b-low, pre .light e l)
 
         next-long : length next ≡ mostObjects
         next-long = ap length next-is ∙ simp length-set (t .long)
@@ -150,28 +150,36 @@ module _ {m : ℕ} {ends takes sheet : List ℕ} (pre : Adding m ends takes shee
           gets-is : (v : ℕ) → counted (eqb a v) x + counted (eqb b v) y ≡ gets (constraintsOf m ends takes) (sheetIn sheet) v e
           gets-is v = cc (a-is, b-is, x-is, y-is)
 
-          pub one-added : Tallying m ends takes sheet (e + 1) (total + weight) (given + (first + second)) last
-          one-added =
+          added-more : AddedUp (constraintsOf m ends takes) (sheetIn sheet) (e + 1) (total + weight) (given + (first + second)) last
+          added-more =
               record {
-                added =
-                    record {
-                      fits = λ i h. go i h (ℕ-discrete i e);
-                      total-is = omega (arith, t .added .total-is, sum-more e (at takes));
-                      given-is = omega (arith, t .added .given-is, sum-more e (gives (sheetIn sheet)));
-                      load-is =
-                          λ v h.
-                          omega (
-                            arith,
-                            last-at v,
-                            gets-is v,
-                            t .added .load-is v h,
-                            sum-more e (gets (constraintsOf m ends takes) (sheetIn sheet) v),
-                          );
-                    };
-                long = ap length last-is ∙ simp length-set next-long;
-                low = omega arith;
+                fits = λ i h. go i h (ℕ-discrete i e);
+                total-is = omega (arith, t .added .total-is, sum-more e (at takes));
+                given-is = omega (arith, t .added .given-is, sum-more e (gives (sheetIn sheet)));
+                load-is =
+                    λ v h.
+                    omega (
+                      arith,
+                      last-at v,
+                      gets-is v,
+                      t .added .load-is v h,
+                      sum-more e (gets (constraintsOf m ends takes) (sheetIn sheet) v),
+                    );
               }
             where
               go : (i : ℕ) → i < e + 1 → Dec (i ≡ e) → gives (sheetIn sheet) i ≤ at takes i
               go i h (yes same) = subst (λ (k : ℕ). gives (sheetIn sheet) k ≤ at takes k) (sym same) (omega arith)
               go i h (no other) = t .added .fits i (omega arith)
+
+          pub one-added : Tallying m ends takes sheet (e + 1) (total + weight) (given + (first + second)) last
+          one-added =
+              record {
+                added = added-more;
+                long = ap length last-is ∙ simp length-set next-long;
+                low = omega arith;
+                total-low = omega (arith, pre .few, total-small added-more light-more);
+                given-low = omega (arith, pre .few, given-small added-more light-more);
+              }
+            where
+              light-more : (i : ℕ) → i < e + 1 → at takes i ≤ mostWeight
+              light-more i h = pre .light i (omega arith)

@@ -1,7 +1,6 @@
 -- `counter::checker::add_up` meets its contract. The invariant: the constraints below e are added up. Assumes nothing.
 use Prim.Native.Nat.{_-_}
-use native.Mathlib.Omega.{arith}
-use Rattle.counter.proofs.checker.AddingUp.{Tallying, none-added, all-added, sums-low, first-fits, second-fits, one-added, not-fitting}
+use Rattle.counter.proofs.checker.AddingUp.{Tallying, none-added, all-added, a-low, first-fits, b-low, second-fits, one-added, not-fitting}
 use borrow.Author.Needs.{needs}
 use Rattle.counter.proofs.checker.add_up.Statement.{statement}
 use Rattle.counter.proofs.checker.add_up.Tie as tie
@@ -16,132 +15,91 @@ loop-holds : tie.Need-loop-holds Inv-loop μ-loop
 loop-holds c = search (none-added, needs)
 
 mul-two-at : tie.Need-mul-two-at Inv-loop μ-loop
-mul-two-at c = omega arith
+mul-two-at c = search needs
 
 two-at-requires : tie.Need-two-at-requires Inv-loop μ-loop
 two-at-requires c κs = search needs
 
 mul-two-at-2 : tie.Need-mul-two-at-2 Inv-loop μ-loop
-mul-two-at-2 c = omega arith
+mul-two-at-2 c = search needs
 
 add-two-at : tie.Need-add-two-at Inv-loop μ-loop
-add-two-at c = omega arith
+add-two-at c = search needs
 
 two-at-requires-2 : tie.Need-two-at-requires-2 Inv-loop μ-loop
 two-at-requires-2 c κs = search needs
 
 two-bytes-requires : tie.Need-two-bytes-requires Inv-loop μ-loop
-two-bytes-requires c κs = tt
+two-bytes-requires c κs = search needs
 
 two-bytes-requires-2 : tie.Need-two-bytes-requires-2 Inv-loop μ-loop
-two-bytes-requires-2 c κs = tt
+two-bytes-requires-2 c κs = search needs
 
 add-both : tie.Need-add-both Inv-loop μ-loop
-add-both c = omega arith
+add-both c = search needs
 
 element-copy-out-one-byte : tie.Need-element-copy-out-one-byte Inv-loop μ-loop
-element-copy-out-one-byte c = omega arith
+element-copy-out-one-byte c = search needs
 
 one-byte-requires : tie.Need-one-byte-requires Inv-loop μ-loop
-one-byte-requires c κs = tt
+one-byte-requires c κs = search needs
 
 returns : tie.Need-returns Inv-loop μ-loop
 returns c = search not-fitting
 
-mul-two-bytes : tie.Need-mul-two-bytes Inv-loop μ-loop
-mul-two-bytes c = omega arith
-
-mul-two-bytes-2 : tie.Need-mul-two-bytes-2 Inv-loop μ-loop
-mul-two-bytes-2 c = omega arith
-
-element-copy-out-two-bytes : tie.Need-element-copy-out-two-bytes Inv-loop μ-loop
-element-copy-out-two-bytes c = omega arith
-
-two-bytes-requires-3 : tie.Need-two-bytes-requires-3 Inv-loop μ-loop
-two-bytes-requires-3 c κs = tt
+ends-of-requires : tie.Need-ends-of-requires Inv-loop μ-loop
+ends-of-requires c κs = search needs
 
 receive-requires : tie.Need-receive-requires Inv-loop μ-loop
 receive-requires c κs =
-    let pre = c .before .before .before .before .before .before .before .before .before .before .before .before .before .pre in
-    let loop = c .before .before .before .before .before .before .before .before .before .before .before .loop in
-    let loop-test = c .before .before .before .before .before .before .before .before .before .before .loop-test in
-    let two-at = c .before .before .before .before .before .before .before .before .before .two-at in
-    let two-at2 = c .before .before .before .before .before .before .before .before .two-at2 in
-    let one-byte = c .before .before .before .before .one-byte in
-    let two-bytes = c .before .before .before .before .before .before .before .two-bytes in
-    let two-bytes2 = c .before .before .before .before .before .before .two-bytes2 in
-    let if1 = c .before .before .before .if1 in
-    first-fits pre (loop .inv) (loop-test .taken) (two-at .ensures) (two-at2 .ensures) (one-byte .ensures .0) (two-bytes .ensures .0) (two-bytes2 .ensures .0) (if1 .left)
-    (c .before .two-bytes3 .ensures .0)
-
-mul-two-bytes-3 : tie.Need-mul-two-bytes-3 Inv-loop μ-loop
-mul-two-bytes-3 c = omega arith
-
-add-two-bytes : tie.Need-add-two-bytes Inv-loop μ-loop
-add-two-bytes c = omega arith
-
-mul-two-bytes-4 : tie.Need-mul-two-bytes-4 Inv-loop μ-loop
-mul-two-bytes-4 c = omega arith
-
-element-copy-out-two-bytes-2 : tie.Need-element-copy-out-two-bytes-2 Inv-loop μ-loop
-element-copy-out-two-bytes-2 c = omega arith
-
-two-bytes-requires-4 : tie.Need-two-bytes-requires-4 Inv-loop μ-loop
-two-bytes-requires-4 c κs = tt
+    let judged = c .before .before in
+    let weighed = judged .before in
+    let taken = weighed .before .before in
+    let read = taken .before .before in
+    let turn = read .before .before in (
+      search a-low,
+      first-fits (turn .before .before .before .pre) (turn .before .loop .inv) (turn .loop-test .taken) (read .before .two-at .ensures) (read .two-at2 .ensures)
+          (weighed .one-byte .ensures .0) (taken .before .two-bytes .ensures .0) (taken .two-bytes2 .ensures .0) (judged .if1 .left)
+          (c .before .ends-of .ensures .0),
+    )
 
 receive-requires-2 : tie.Need-receive-requires-2 Inv-loop μ-loop
 receive-requires-2 c κs =
-    let pre = c .before .before .before .before .before .before .before .before .before .before .before .before .before .before .before .before .before .pre in
-    let loop = c .before .before .before .before .before .before .before .before .before .before .before .before .before .before .before .loop in
-    let loop-test = c .before .before .before .before .before .before .before .before .before .before .before .before .before .before .loop-test in
-    let two-at = c .before .before .before .before .before .before .before .before .before .before .before .before .before .two-at in
-    let two-at2 = c .before .before .before .before .before .before .before .before .before .before .before .before .two-at2 in
-    let one-byte = c .before .before .before .before .before .before .before .before .one-byte in
-    let two-bytes = c .before .before .before .before .before .before .before .before .before .before .before .two-bytes in
-    let two-bytes2 = c .before .before .before .before .before .before .before .before .before .before .two-bytes2 in
-    let if1 = c .before .before .before .before .before .before .before .if1 in
-    let two-bytes3 = c .before .before .before .before .before .two-bytes3 in
-    let receive = c .before .before .before .receive in
-    second-fits pre (loop .inv) (loop-test .taken) (two-at .ensures) (two-at2 .ensures) (one-byte .ensures .0) (two-bytes .ensures .0) (two-bytes2 .ensures .0) (if1 .left)
-    (two-bytes3 .ensures .0) (receive .ensures) (c .before .two-bytes4 .ensures .0)
+    let paired = c .before .before .before in
+    let judged = paired .before in
+    let weighed = judged .before in
+    let taken = weighed .before .before in
+    let read = taken .before .before in
+    let turn = read .before .before in (
+      search b-low,
+      second-fits (turn .before .before .before .pre) (turn .before .loop .inv) (turn .loop-test .taken) (read .before .two-at .ensures) (read .two-at2 .ensures)
+          (weighed .one-byte .ensures .0) (taken .before .two-bytes .ensures .0) (taken .two-bytes2 .ensures .0) (judged .if1 .left)
+          (paired .ends-of .ensures .0) (c .before .receive .ensures) (paired .ends-of .ensures .1),
+    )
 
 add-total : tie.Need-add-total Inv-loop μ-loop
-add-total c =
-    let pre = c .before .before .before .before .before .before .before .before .before .before .before .before .before .before .before .before .before .before .pre in
-    let loop = c .before .before .before .before .before .before .before .before .before .before .before .before .before .before .before .before .loop in
-    let one-byte = c .before .before .before .before .before .before .before .before .before .one-byte in
-    omega (arith, sums-low pre (loop .inv), (one-byte .ensures))
+add-total c = search needs
 
 add-given : tie.Need-add-given Inv-loop μ-loop
-add-given c =
-    let pre = c .before .before .before .before .before .before .before .before .before .before .before .before .before .before .before .before .before .before .pre in
-    let loop = c .before .before .before .before .before .before .before .before .before .before .before .before .before .before .before .before .loop in
-    let one-byte = c .before .before .before .before .before .before .before .before .before .one-byte in
-    let if1 = c .before .before .before .before .before .before .before .before .if1 in
-    omega (arith, sums-low pre (loop .inv), (one-byte .ensures), (if1 .left))
+add-given c = search needs
 
 add-e : tie.Need-add-e Inv-loop μ-loop
-add-e c = omega arith
+add-e c = search needs
 
 loop-less : tie.Need-loop-less Inv-loop μ-loop
 loop-less c = search needs
 
 loop-again : tie.Need-loop-again Inv-loop μ-loop
 loop-again c =
-    let pre = c .before .before .before .before .before .before .before .before .before .before .before .before .before .before .before .before .before .before .pre in
-    let loop = c .before .before .before .before .before .before .before .before .before .before .before .before .before .before .before .before .loop in
-    let loop-test = c .before .before .before .before .before .before .before .before .before .before .before .before .before .before .before .loop-test in
-    let two-at = c .before .before .before .before .before .before .before .before .before .before .before .before .before .before .two-at in
-    let two-at2 = c .before .before .before .before .before .before .before .before .before .before .before .before .before .two-at2 in
-    let one-byte = c .before .before .before .before .before .before .before .before .before .one-byte in
-    let two-bytes = c .before .before .before .before .before .before .before .before .before .before .before .before .two-bytes in
-    let two-bytes2 = c .before .before .before .before .before .before .before .before .before .before .before .two-bytes2 in
-    let if1 = c .before .before .before .before .before .before .before .before .if1 in
-    let two-bytes3 = c .before .before .before .before .before .before .two-bytes3 in
-    let receive = c .before .before .before .before .receive in
-    let two-bytes4 = c .before .before .two-bytes4 in
-    one-added pre (loop .inv) (loop-test .taken) (two-at .ensures) (two-at2 .ensures) (one-byte .ensures .0) (two-bytes .ensures .0) (two-bytes2 .ensures .0) (if1 .left)
-    (two-bytes3 .ensures .0) (receive .ensures) (two-bytes4 .ensures .0) (c .receive2 .ensures)
+    let paired = c .before .before .before .before in
+    let judged = paired .before in
+    let weighed = judged .before in
+    let taken = weighed .before .before in
+    let read = taken .before .before in
+    let turn = read .before .before in
+    one-added (turn .before .before .before .pre) (turn .before .loop .inv) (turn .loop-test .taken) (read .before .two-at .ensures) (read .two-at2 .ensures)
+    (weighed .one-byte .ensures .0) (taken .before .two-bytes .ensures .0) (taken .two-bytes2 .ensures .0) (judged .if1 .left)
+    (paired .ends-of .ensures .0) (c .before .before .receive .ensures) (paired .ends-of .ensures .1) (c .receive2 .ensures)
 
 returns-2 : tie.Need-returns-2 Inv-loop μ-loop
 returns-2 c = search all-added
@@ -164,16 +122,8 @@ add-up-spec =
     element-copy-out-one-byte
     one-byte-requires
     returns
-    mul-two-bytes
-    mul-two-bytes-2
-    element-copy-out-two-bytes
-    two-bytes-requires-3
+    ends-of-requires
     receive-requires
-    mul-two-bytes-3
-    add-two-bytes
-    mul-two-bytes-4
-    element-copy-out-two-bytes-2
-    two-bytes-requires-4
     receive-requires-2
     add-total
     add-given
