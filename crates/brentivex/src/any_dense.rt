@@ -3,7 +3,7 @@ use counter::block::BLOCK;
 use counter::block::put_finding;
 use counter::count::lowest_above;
 use counter::fault::range_fault;
-use counter::net::net_of;
+use net::net_of;
 ghost use lib.ListN.{length};
 ghost use Rattle.drawing.specs.Read.{read};
 ghost use Rattle.counter.specs.Outcome.{Answers};

@@ -1,8 +1,8 @@
 // Check: whether a sheet shows a claim.
-use counter::checker::shows;
+use checker::shows;
 use counter::fault::number_fault;
-use counter::net::net_of;
 use counter::sheet::ROW;
+use net::net_of;
 ghost use Rattle.drawing.specs.Read.{read};
 ghost use Rattle.counter.specs.Outcome.{Replies};
 ghost use Rattle.counter.specs.Question.{check};

@@ -2,7 +2,7 @@
 use counter::block::TWO_NUMBERS;
 use counter::block::put_numbers;
 use counter::fault::room_fault;
-use counter::net::counts_of;
+use net::counts_of;
 ghost use lib.ListN.{length};
 ghost use Rattle.drawing.specs.Read.{read};
 ghost use Rattle.counter.specs.Outcome.{Answers};

@@ -4,7 +4,7 @@ use counter::block::put_block;
 use counter::count::block_of;
 use counter::count::one;
 use counter::fault::number_fault;
-use counter::net::net_of;
+use net::net_of;
 ghost use lib.ListN.{length};
 ghost use Rattle.drawing.specs.Read.{read};
 ghost use Rattle.counter.specs.Outcome.{Answers};

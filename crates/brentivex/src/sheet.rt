@@ -1,9 +1,9 @@
 // Sheet: why no set that holds constraint c is denser than its top density.
 use counter::count::one;
 use counter::fault::number_fault;
-use counter::net::net_of;
 use counter::sheet::ROW;
 use counter::sheet::put_sheet;
+use net::net_of;
 ghost use lib.ListN.{length};
 ghost use Rattle.drawing.specs.Read.{read};
 ghost use Rattle.counter.specs.Outcome.{Answers};

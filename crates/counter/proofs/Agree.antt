@@ -11,12 +11,12 @@ use Rattle.density.specs.Top.{LowestAbove, NoneAt}
 use Rattle.density.proofs.OneAnswer.{answers-agree, lowest-one}
 use Rattle.drawing.specs.Entry.{Drawing}
 use Rattle.drawing.specs.Read.{Reading, refused, accepted}
-use Rattle.counter.specs.Weighed.{weighed}
+use Rattle.net.specs.Weighed.{weighed}
 use Rattle.counter.specs.Outcome.{Outcome, answered, Question, Unless, Fits, over, Answers, Replies, askedFault}
 use Rattle.counter.specs.Question.{lookOver, oneConstraint, anyDense, sheetFor, check, BlockOf, SheetOf}
 use Rattle.counter.proofs.Blocks.{block-same}
 use lib.Seq.{drop-at}
-use Rattle.counter.specs.Sheet.{sheetSize}
+use Rattle.checker.specs.Sheet.{sheetSize}
 
 -- the answer to q determines a part of the outcome
 abbrev pub Determines : {A : Type 0} → (Outcome → A) → Question → Type 0

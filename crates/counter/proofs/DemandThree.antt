@@ -14,12 +14,12 @@ use Rattle.density.proofs.Listing.{answer-carries, dense-both}
 use Rattle.density.proofs.OneAnswer.{answers-agree, no-set-none-dense}
 use Rattle.drawing.specs.Entry.{Drawing}
 use Rattle.drawing.specs.Read.{Reading, accepted, read}
-use Rattle.counter.specs.Weighed.{weighed, Within}
+use Rattle.net.specs.Weighed.{weighed, Within}
 use Rattle.counter.specs.Block.{blockSize, densityIn, setIn}
 use Rattle.counter.specs.Outcome.{Answers}
 use Rattle.counter.specs.Fault.{roomFault}
 use Rattle.counter.specs.Question.{oneConstraint, anyDense}
-use Rattle.counter.proofs.Nets.{accepted-within}
+use Rattle.net.proofs.Within.{accepted-within}
 use Rattle.counter.proofs.Faults.{number-names, number-low}
 use Rattle.counter.proofs.Outcomes.{unrefused}
 use Rattle.counter.proofs.DemandTwo.{one-constraint-says, none-exactly}

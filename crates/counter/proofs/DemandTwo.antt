@@ -16,13 +16,13 @@ use Rattle.density.proofs.Shares.{sheet-bounds, sound-same, claim-same}
 use Rattle.density.proofs.OneAnswer.{tops-agree, none-no-set}
 use Rattle.drawing.specs.Entry.{Drawing}
 use Rattle.drawing.specs.Read.{accepted, read}
-use Rattle.counter.specs.Weighed.{weighed, Within}
+use Rattle.net.specs.Weighed.{weighed, Within}
 use Rattle.counter.specs.Block.{blockSize, numberIn, densityIn, setIn}
-use Rattle.counter.specs.Sheet.{sheetSize, sheetIn}
+use Rattle.checker.specs.Sheet.{sheetSize, sheetIn}
 use Rattle.counter.specs.Fault.{roomFault, numberFault}
 use Rattle.counter.specs.Outcome.{Outcome, says, over, Answers, Replies, askedFault}
 use Rattle.counter.specs.Question.{oneConstraint, anyDense, sheetFor, check, LowestBlock, NoBlock, SheetOf, Shows}
-use Rattle.counter.proofs.Nets.{accepted-within}
+use Rattle.net.proofs.Within.{accepted-within}
 use Rattle.counter.proofs.Faults.{room-there, number-there, number-names, number-low, range-low}
 use Rattle.counter.proofs.Outcomes.{unrefused, faultless-answered}
 use Rattle.counter.proofs.ReadBack.{sheet-front, block-says}

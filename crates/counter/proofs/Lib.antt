@@ -1,6 +1,5 @@
 -- the published theorems, and what other crates cite
-pub mod Nets
-pub mod Sizes
+pub mod Solving
 pub mod Outcomes
 pub mod ReadBack
 pub mod Statements
@@ -9,6 +8,7 @@ pub mod DemandOne
 pub mod DemandTwo
 pub mod DemandThree
 -- what the proofs of this crate share
+mod Sizes
 mod SignedK
 mod Faults
 mod Blocks

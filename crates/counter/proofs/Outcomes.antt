@@ -12,7 +12,7 @@ use Rattle.drawing.specs.Entry.{Drawing}
 use Rattle.drawing.specs.Read.{Reading, refused, accepted}
 use Rattle.counter.specs.Fault.{callFault, FirstOf}
 use Rattle.counter.specs.Outcome.{Outcome, says, Question, askedFault, firstFault, Unless, Fits, over, Answers}
-use Rattle.counter.specs.NetFor.{AcceptedAs, CountsFor}
+use Rattle.net.specs.NetFor.{AcceptedAs, CountsFor}
 
 -- ---- to the statement of an entry
 

@@ -23,8 +23,8 @@ use Rattle.counter.specs.Block.{two, complement, setByte, setBytes, setS
 use Rattle.density.specs.Top.{AnswerSet}
 use Rattle.density.proofs.OneAnswer.{answer-top, answer-alike}
 use Rattle.drawing.specs.Entry.{Drawing}
-use Rattle.counter.specs.Weighed.{weighed, Within}
-use Rattle.counter.specs.Sheet.{sheetSize, sheetIn}
+use Rattle.net.specs.Weighed.{weighed, Within}
+use Rattle.checker.specs.Sheet.{sheetSize, sheetIn}
 use Rattle.counter.specs.Outcome.{Outcome, over}
 use Rattle.counter.specs.Question.{BlockOf}
 use Rattle.counter.proofs.Sizes.{Short, top-short}

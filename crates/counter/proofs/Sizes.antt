@@ -1,18 +1,18 @@
 -- Densities of an accepted drawing fit 16 bits. Assumes nothing.
 use mathlib.Core.Path.{_≡_, sym}
-use Prim.Native.Nat.{ℕ, zero, suc, _+_, _*_, _≤_, _<_}
+use Prim.Native.Nat.{ℕ, _+_, _*_, _≤_, _<_}
 use native.Mathlib.Omega.{arith}
 use lib.IntN.{ℤ, subℕ}
 use lib.ListN.{length}
-use Rattle.density.specs.Sum.{sum, counted}
+use Rattle.density.specs.Sum.{counted}
 use Rattle.density.specs.Net.{Set, holds}
 use Rattle.density.specs.Density.{takenBy, free, density}
 use Rattle.density.specs.Top.{Top}
-use Rattle.density.proofs.Sums.{counted-le}
+use Rattle.density.proofs.Sums.{counted-le, sum-most}
 use Rattle.limits.specs.Limits.{mostObjects, mostConstraints, mostWeight}
 use Rattle.drawing.specs.Entry.{Drawing}
 use Rattle.drawing.specs.Weight.{constraintWeight}
-use Rattle.counter.specs.Weighed.{weightOf, weighed, Within}
+use Rattle.net.specs.Weighed.{weightOf, weighed, Within}
 
 -- a density that 16 bits hold
 pub record Short (t : ℤ) : Type 0 where
@@ -22,12 +22,6 @@ pub record Short (t : ℤ) : Type 0 where
   pub high : more < 32768
   pub low : less ≤ 32768 + more
 
--- k weights
-pub sum-light : (k : ℕ) (f : ℕ → ℕ) → ((i : ℕ) → i < k → f i ≤ mostWeight) → sum k f ≤ mostWeight * k
-unfolding sum
-sum-light zero f h = omega arith
-sum-light (suc k) f h = omega (arith, sum-light k f (λ i l. h i (omega arith)), h k (omega arith))
-
 module _ (d : Drawing) (within : Within d) where
   pub taken-small : (S : Set) → takenBy (weighed d) S ≤ mostWeight * mostConstraints
   unfolding takenBy weighed
@@ -35,7 +29,7 @@ module _ (d : Drawing) (within : Within d) where
       omega (
         arith,
         within .few-constraints,
-        sum-light (length (d .constraints)) (λ e. counted (holds (weighed d) S e) (constraintWeight d e))
+        sum-most (length (d .constraints)) mostWeight (λ e. counted (holds (weighed d) S e) (constraintWeight d e))
             (λ e l. omega (arith, counted-le (holds (weighed d) S e) (constraintWeight d e), within .light-constraints e l)),
       )
 
@@ -45,7 +39,7 @@ module _ (d : Drawing) (within : Within d) where
       omega (
         arith,
         within .few-objects,
-        sum-light (length (d .objects)) (λ v. counted (S v) (weightOf d v))
+        sum-most (length (d .objects)) mostWeight (λ v. counted (S v) (weightOf d v))
             (λ v l. omega (arith, counted-le (S v) (weightOf d v), within .light-objects v l)),
       )
 

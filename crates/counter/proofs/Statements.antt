@@ -17,21 +17,21 @@ use Rattle.density.proofs.OneAnswer.{answer-top}
 use Rattle.drawing.specs.Entry.{Drawing}
 use Rattle.drawing.specs.Read.{Reading}
 use Rattle.routes.specs.declared.answer.Solution.{Solution}
-use Rattle.routes.specs.Arrays.{sharesIn, members}
+use Rattle.arrays.specs.Arrays.{sharesIn, members}
 use Rattle.routes.specs.Solved.{Solved}
-use Rattle.counter.specs.declared.net.NetArrays.{NetArrays}
+use Rattle.net.specs.declared.NetArrays.{NetArrays}
 use Rattle.counter.specs.declared.block.Block.{Block}
 use Rattle.counter.specs.declared.block.Finding.{Finding}
-use Rattle.counter.specs.Weighed.{weighed}
+use Rattle.net.specs.Weighed.{weighed}
 use Rattle.counter.specs.Block.{two, block}
-use Rattle.counter.specs.Sheet.{sheetSize, sheetIn}
+use Rattle.checker.specs.Sheet.{sheetSize, sheetIn}
 use Rattle.counter.specs.Fault.{FirstOf, Named, Ranged}
 use Rattle.counter.specs.Outcome.{says, answered, over, Answers}
 use Rattle.counter.specs.Question.{lookOver, oneConstraint, anyDense, sheetFor, check, BlockOf, Shows}
-use Rattle.counter.specs.NetFor.{netHeld, Countable, AcceptedAs, CountsFor, NetFor}
+use Rattle.net.specs.NetFor.{netHeld, Countable, AcceptedAs, CountsFor, NetFor}
 use Rattle.counter.specs.Counting.{SolvedIn, blockFrom, BlockIn, AllAt, Sought}
 use Rattle.counter.specs.Written.{Writable, blockBytes, FindingWritten, SheetWritten}
-use Rattle.counter.specs.Checked.{Checked}
+use Rattle.checker.specs.Checked.{Checked}
 use Rattle.counter.proofs.Blocks.{block-within}
 use Rattle.counter.proofs.Outcomes.{refuses, answers}
 

@@ -6,10 +6,10 @@ use lib.IntN.{ℤ}
 use Rattle.density.specs.Top.{NoneAt, LowestAbove}
 use Rattle.routes.specs.declared.answer.Solution.{Solution}
 use Rattle.routes.specs.Solved.{Solved}
-use Rattle.counter.specs.declared.net.NetArrays.{NetArrays}
+use Rattle.net.specs.declared.NetArrays.{NetArrays}
 use Rattle.counter.specs.declared.block.Block.{Block}
 use Rattle.counter.specs.declared.block.Finding.{Finding}
-use Rattle.counter.specs.NetFor.{netHeld, Countable}
+use Rattle.net.specs.NetFor.{netHeld, Countable}
 use Rattle.counter.specs.Range.{inRange}
 
 -- one constraint of the net

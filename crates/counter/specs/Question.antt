@@ -9,9 +9,9 @@ use Rattle.density.specs.Net.{Set}
 use Rattle.density.specs.Top.{Top, AnswerSet, NoneAt, LowestAbove}
 use Rattle.density.specs.Sheet.{Sound, claim}
 use Rattle.drawing.specs.Entry.{Drawing}
-use Rattle.counter.specs.Weighed.{weighed}
+use Rattle.net.specs.Weighed.{weighed}
 use Rattle.counter.specs.Block.{two, numbersSize, block, blockSize}
-use Rattle.counter.specs.Sheet.{sheetSize, sheetIn}
+use Rattle.checker.specs.Sheet.{sheetSize, sheetIn}
 use Rattle.counter.specs.Fault.{roomFault, numberFault, rangeFault}
 use Rattle.counter.specs.Outcome.{Outcome, says, answered, Question}
 

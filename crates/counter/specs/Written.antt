@@ -7,11 +7,11 @@ use lib.IntN.{subℕ}
 use lib.ListN.{length}
 use Rattle.limits.specs.Limits.{mostObjects}
 use Rattle.density.specs.Net.{Side}
-use Rattle.routes.specs.Arrays.{sharesIn, members}
+use Rattle.arrays.specs.Arrays.{sharesIn, members}
 use Rattle.counter.specs.declared.block.Block.{Block}
 use Rattle.counter.specs.declared.block.Finding.{Finding}
 use Rattle.counter.specs.Block.{block}
-use Rattle.counter.specs.Sheet.{sheetSize, sheetIn}
+use Rattle.checker.specs.Sheet.{sheetSize, sheetIn}
 use Rattle.counter.specs.Outcome.{over}
 
 -- a block whose density fits its bytes, and the bytes of a block

@@ -1,9 +1,9 @@
 // Counting a net: the answer for one constraint, and the lowest constraint above K.
 use crate::block::Block;
 use crate::block::Finding;
-use crate::net::NetArrays;
 use crate::range::from_least;
 use crate::range::is_above;
+use net::NetArrays;
 use routes::answer::Solution;
 use routes::answer::answer;
 use routes::answer::base;

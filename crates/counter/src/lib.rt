@@ -1,8 +1,6 @@
-// The counter: a drawing's net counted, the faults of a call, the answer block and the sheet as bytes, and the check of a sheet.
+// The counter: a net counted, the faults of a call, and the answer block and the sheet as bytes.
 pub mod block;
-pub mod checker;
 pub mod count;
 pub mod fault;
-pub mod net;
 pub mod range;
 pub mod sheet;

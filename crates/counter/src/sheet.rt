@@ -1,11 +1,11 @@
 // The writer of a sheet's bytes.
 use crate::block::put_two;
+use arrays::two_bytes;
 use routes::answer::Solution;
-use routes::number::two_bytes;
 ghost use Prim.Native.Nat.{_≤_};
 ghost use lib.ListN.{length};
 ghost use Rattle.limits.specs.Limits.{mostConstraints};
-ghost use Rattle.counter.specs.Sheet.{sheetSize};
+ghost use Rattle.checker.specs.Sheet.{sheetSize};
 ghost use Rattle.counter.specs.Written.{SheetWritten};
 
 // The bytes of a sheet for each constraint.

@@ -2,8 +2,8 @@
 use mathlib.Core.Path.{_≡_, refl, sym, _∙_, ap, ap₂}
 use mathlib.Core.Logic.{_≢_}
 use mathlib.Core.Bool.{Bool, true, false, _&&_, and-comm}
-use Prim.Native.Nat.{ℕ, zero, suc, _+_, _≤_, _<_}
-use native.Mathlib.Nat.{le-refl}
+use Prim.Native.Nat.{ℕ, zero, suc, _+_, _*_, _≤_, _<_}
+use native.Mathlib.Nat.{le-refl, suc-mul}
 use native.Mathlib.Omega.{arith}
 use native.Mathlib.Decide.{ℕ-discrete, decLt}
 use borrow.Author.Tests.{eq-eqb, ne-eqb}
@@ -60,6 +60,12 @@ pub sum-add : (k : ℕ) (f g : ℕ → ℕ) → sum k (λ i. f i + g i) ≡ sum 
 unfolding sum
 sum-add zero f g = refl
 sum-add (suc k) f g = omega (arith, sum-add k f g)
+
+-- k terms of at most w
+pub sum-most : (k w : ℕ) (f : ℕ → ℕ) → ((i : ℕ) → i < k → f i ≤ w) → sum k f ≤ k * w
+unfolding sum
+sum-most zero w f h = omega arith
+sum-most (suc k) w f h = omega (arith, sum-most k w f (λ i l. h i (omega arith)), h k (omega arith), suc-mul k w)
 
 pub sum-zero : (k : ℕ) (f : ℕ → ℕ) → ((i : ℕ) → i < k → f i ≡ 0) → sum k f ≡ 0
 unfolding sum

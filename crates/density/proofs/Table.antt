@@ -1,4 +1,4 @@
--- Drawings A to L: every row of the table is correct, by one test that the checker computes over the whole table. Assumes nothing.
+-- Drawings A to L: every row of the table is correct, by one test that the prover computes over the whole table. Assumes nothing.
 mod Test
 use Prim.Native.Nat.{ℕ, _<_}
 use lib.Dec.{T}

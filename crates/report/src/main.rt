@@ -1,15 +1,15 @@
 // The report: reads a drawing on standard input and prints its counts, the top density and the members of each constraint's answer set,
 // and whether any set is dense at K = -3; or the number of its refusal. What is printed is held to stored output, and not proved.
-use counter::net::NetArrays;
-use counter::net::net_of;
 use counter::range::is_above;
 use libc::STDOUT_FILENO;
 use limits::OBJECTS;
+use net::NetArrays;
+use net::net_of;
 use routes::answer::answer;
 use routes::answer::base;
 ghost use Prim.Native.Nat.{_≤_, _<_};
 ghost use Rattle.limits.specs.Limits.{mostObjects};
-ghost use Rattle.counter.specs.NetFor.{Countable};
+ghost use Rattle.net.specs.NetFor.{Countable};
 
 // 01: "6,000 bytes at most; that prefix gives every longer input its refusal".
 const INPUT: usize = 6000;

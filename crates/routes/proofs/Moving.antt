@@ -8,12 +8,12 @@ use lib.ListN.{length, set, length-set}
 use lib.Dec.{eqb}
 use Rattle.density.specs.Sum.{counted}
 use Rattle.limits.specs.Limits.{mostObjects, mostConstraints, mostEnds}
-use Rattle.routes.specs.At.{at, Clear}
+use Rattle.arrays.specs.At.{at, Clear}
 use Rattle.routes.specs.State.{State, state, Sized, Unmoved, Grown, Bounded, bothShares, load}
 use Rattle.routes.specs.Search.{Moved, lowered, raised, shifted}
 use Rattle.routes.proofs.Cases.{same-or-not}
 use Rattle.routes.proofs.Sums.{counted-here, counted-off}
-use Rattle.routes.proofs.Places.{at-set-here, at-set-off, load-raised, load-lowered, total-raised, total-lowered, share-le-load}
+use Rattle.routes.proofs.Places.{at-set-here, at-set-off, load-raised, load-lowered, both-raised, both-lowered, share-le-load}
 
 -- v receives one share more at the place i, from its room
 abbrev pub used-room : ℕ → ℕ → State → State
@@ -25,7 +25,7 @@ moved-used-room m i v ends s z few b is small clear some =
     let inside : i < length (s .shares) = omega (arith, z .shares) in
     let inroom : v < length (s .room) = omega (arith, z .room) in
     record {
-      totals = λ x. total-raised (s .shares) i x inside;
+      both-shares = λ x. both-raised (s .shares) i x inside;
       loads = λ x. ⊎-elim
           (λ e. omega (arith, load-raised m ends (s .shares) i x b inside, counted-here (at ends i) x 1 (is ∙ sym e), at-set-here (s .room) v (at (s .room) v - 1) x inroom e, ap (λ (y : ℕ). at (s .room) y) e))
           (λ n. omega (arith, load-raised m ends (s .shares) i x b inside, counted-off (at ends i) x 1 (λ q. n (sym q ∙ is)), at-set-off (s .room) v (at (s .room) v - 1) x n))
@@ -49,7 +49,7 @@ same-load m ends s t same v = ap₂ (λ (a b : List ℕ). load m ends a v + at b
 -- a search that went on from more marks, with the same shares and rooms, moved for the earlier marks too
 pub moved-after : {m e : ℕ} {ends : List ℕ} {s t u : State} → Unmoved s t → Grown s t → Moved m e ends t u → Moved m e ends s u
 moved-after {m} {e} {ends} {s} {t} {u} same grown h = record {
-  totals = λ x. h .totals x ∙ ap (λ (l : List ℕ). bothShares l x + counted (eqb e x) 1) (same .shares);
+  both-shares = λ x. h .both-shares x ∙ ap (λ (l : List ℕ). bothShares l x + counted (eqb e x) 1) (same .shares);
   loads = λ v. h .loads v ∙ same-load m ends s t same v;
   rooms = λ v. subst (λ (a : List ℕ). at (u .room) v ≤ at a v) (same .room) (h .rooms v);
   kept = λ k l y. h .kept k l (grown .objects (at ends k) y) ∙ ap (λ (a : List ℕ). at a k) (same .shares);
@@ -62,7 +62,7 @@ moved-passed m i k v ends s u long few bi bk ei ek clear some h =
     let ini : i < length (lowered k (u .shares)) = omega (arith, length-set (u .shares) k (at (u .shares) k - 1)) in
     let ink : k < length (u .shares) = omega arith in
     record {
-      totals = λ x. omega (arith, h .totals x, total-lowered (u .shares) k x ink some, total-raised (lowered k (u .shares)) i x ini);
+      both-shares = λ x. omega (arith, h .both-shares x, both-lowered (u .shares) k x ink some, both-raised (lowered k (u .shares)) i x ini);
       loads = λ x. omega (
         arith,
         h .loads x,

@@ -1,4 +1,4 @@
--- Places: the two of a constraint, what stands there after a store, and loads and totals then. Assumes nothing.
+-- Places: the two of a constraint, what stands there after a store, and loads and both shares of a constraint then. Assumes nothing.
 use mathlib.Core.Path.{_≡_, refl, sym, ap, subst, _∙_}
 use mathlib.Core.Logic.{_≢_, ⊎-elim}
 use mathlib.Core.List.{List}
@@ -10,7 +10,7 @@ use lib.Seq.{getD-set-same, getD-set-other}
 use lib.Dec.{eqb}
 use Rattle.density.specs.Sum.{sum, counted}
 use Rattle.density.proofs.Sums.{counted-add, term-le}
-use Rattle.routes.specs.At.{at}
+use Rattle.arrays.specs.At.{at}
 use Rattle.routes.specs.State.{bothShares, load}
 use Rattle.routes.specs.Search.{lowered, raised}
 use Rattle.routes.proofs.Cases.{same-or-not}
@@ -66,9 +66,9 @@ share-le-load m ends shares i l =
 
 -- ---- what a constraint gives
 
-total-set : (shares : List ℕ) (i y x : ℕ) → i < length shares
+both-set : (shares : List ℕ) (i y x : ℕ) → i < length shares
     → bothShares (set shares i y) x + counted (eqb (i / 2) x) (at shares i) ≡ bothShares shares x + counted (eqb (i / 2) x) y
-total-set shares i y x b =
+both-set shares i y x b =
     ⊎-elim
     (λ e. ⊎-elim
     (λ f. omega (
@@ -98,11 +98,11 @@ total-set shares i y x b =
     ))
     (same-or-not (i / 2) x)
 
-pub total-raised : (shares : List ℕ) (i x : ℕ) → i < length shares → bothShares (raised i shares) x ≡ bothShares shares x + counted (eqb (i / 2) x) 1
-total-raised shares i x b =
-    omega (arith, total-set shares i (at shares i + 1) x b, counted-add (eqb (i / 2) x) (at shares i) 1)
+pub both-raised : (shares : List ℕ) (i x : ℕ) → i < length shares → bothShares (raised i shares) x ≡ bothShares shares x + counted (eqb (i / 2) x) 1
+both-raised shares i x b =
+    omega (arith, both-set shares i (at shares i + 1) x b, counted-add (eqb (i / 2) x) (at shares i) 1)
 
-pub total-lowered : (shares : List ℕ) (k x : ℕ) → k < length shares → 0 < at shares k → bothShares (lowered k shares) x + counted (eqb (k / 2) x) 1 ≡ bothShares shares x
-total-lowered shares k x b p =
+pub both-lowered : (shares : List ℕ) (k x : ℕ) → k < length shares → 0 < at shares k → bothShares (lowered k shares) x + counted (eqb (k / 2) x) 1 ≡ bothShares shares x
+both-lowered shares k x b p =
     let whole : at shares k - 1 + 1 ≡ at shares k = omega arith in
-    omega (arith, total-set shares k (at shares k - 1) x b, counted-add (eqb (k / 2) x) (at shares k - 1) 1, ap (λ (z : ℕ). counted (eqb (k / 2) x) z) whole)
+    omega (arith, both-set shares k (at shares k - 1) x b, counted-add (eqb (k / 2) x) (at shares k - 1) 1, ap (λ (z : ℕ). counted (eqb (k / 2) x) z) whole)

@@ -5,8 +5,8 @@ use Prim.Native.Nat.{ℕ, _+_, _*_, _<_, _≤_}
 use Rattle.density.specs.Sum.{sum}
 use Rattle.limits.specs.Limits.{mostConstraints, mostWeight}
 use Rattle.routes.specs.declared.answer.Distribution.{Distribution}
-use Rattle.routes.specs.At.{at}
-use Rattle.routes.specs.Arrays.{Fair}
+use Rattle.arrays.specs.At.{at}
+use Rattle.arrays.specs.Arrays.{Fair}
 use Rattle.routes.specs.Chains.{Chained}
 use Rattle.routes.specs.State.{State, state, load, bothShares}
 use Rattle.routes.specs.Settle.{Kept}

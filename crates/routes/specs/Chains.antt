@@ -4,7 +4,7 @@ use mathlib.Core.Logic.{_≢_}
 use mathlib.Core.List.{List}
 use Prim.Native.Nat.{ℕ, _-_, _*_, _<_, _≤_}
 use Rattle.limits.specs.Limits.{mostObjects, mostConstraints}
-use Rattle.routes.specs.At.{at}
+use Rattle.arrays.specs.At.{at}
 
 -- p is one more than the last place below i at which v is an end, or 0 if there is none
 pub record Last (ends : List ℕ) (v i p : ℕ) : Type 0 where

@@ -1,6 +1,4 @@
--- what a reader must believe: the arrays as a net, a sheet and a set, and what the answer for a constraint is
-pub mod At
-pub mod Arrays
+-- what a reader must believe: what the answer for a constraint is
 pub mod Solved
 -- what only states the contracts of the functions
 pub mod Chains

@@ -5,7 +5,7 @@ use mathlib.Core.List.{List}
 use Prim.Native.Nat.{ℕ, _*_, _<_}
 use lib.ListN.{length}
 use Rattle.limits.specs.Limits.{mostObjects, mostEnds}
-use Rattle.routes.specs.At.{at}
+use Rattle.arrays.specs.At.{at}
 use Rattle.routes.specs.Chains.{Chained}
 
 -- what releasing the object v asks

@@ -9,7 +9,7 @@ use Rattle.density.specs.Sum.{counted}
 use Rattle.limits.specs.Limits.{mostObjects, mostEnds}
 use Rattle.routes.specs.declared.search.Marks.{Marks}
 use Rattle.routes.specs.declared.search.Route.{Route}
-use Rattle.routes.specs.At.{at, Marked, Clear}
+use Rattle.arrays.specs.At.{at, Marked, Clear}
 use Rattle.routes.specs.Chains.{Chained}
 use Rattle.routes.specs.State.{State, Sized, Unmoved, Grown, BothIn, GoesOn, Bounded, bothShares, load, unmarked}
 
@@ -52,7 +52,7 @@ pub record NoRoute (m : ℕ) (ends : List ℕ) (from : (ℕ → Bool) → Type 0
 -- a route was found: e gives one share more, every other constraint what it gave, and what each object receives and has
 -- room for stays in sum
 pub record Moved (m e : ℕ) (ends : List ℕ) (s s′ : State) : Type 0 where
-  pub totals : (x : ℕ) → bothShares (s′ .shares) x ≡ bothShares (s .shares) x + counted (eqb e x) 1
+  pub both-shares : (x : ℕ) → bothShares (s′ .shares) x ≡ bothShares (s .shares) x + counted (eqb e x) 1
   pub loads : (v : ℕ) → load m ends (s′ .shares) v + at (s′ .room) v ≡ load m ends (s .shares) v + at (s .room) v
   pub rooms : (v : ℕ) → at (s′ .room) v ≤ at (s .room) v
   -- nothing at a marked object changes

@@ -6,8 +6,8 @@ use lib.IntN.{subℕ}
 use Rattle.density.specs.Top.{AnswerSet}
 use Rattle.density.specs.Sheet.{Sound, claim}
 use Rattle.limits.specs.Limits.{mostConstraints, mostWeight}
-use Rattle.routes.specs.At.{at}
-use Rattle.routes.specs.Arrays.{netIn, sharesIn, members}
+use Rattle.arrays.specs.At.{at}
+use Rattle.arrays.specs.Arrays.{netIn, sharesIn, members}
 
 -- 01, 'The questions': top density and answer set of c, and "a sound sheet whose claim is the top density".
 -- The density is above less below; the objects are marks, 0 for none

@@ -2,19 +2,19 @@
 // One base distribution serves every constraint; 'from nothing' is the same with an empty start.
 // n and m count the objects and the constraints in use.
 use crate::chains::chain;
-use crate::ends::ends_of;
-use crate::number::one_byte;
 use crate::release::release;
 use crate::search::Marks;
 use crate::settle::left;
 use crate::settle::settle;
+use arrays::ends_of;
+use arrays::one_byte;
 use limits::CONSTRAINTS;
 use limits::ENDS;
 use limits::OBJECTS;
 ghost use mathlib.Core.Path.{_≡_};
 ghost use lib.ListN.{length};
 ghost use Rattle.limits.specs.Limits.{mostObjects};
-ghost use Rattle.routes.specs.Arrays.{Fair};
+ghost use Rattle.arrays.specs.Arrays.{Fair};
 ghost use Rattle.routes.specs.Solved.{Solved};
 ghost use Rattle.routes.specs.Answer.{stateOf, Spread, Solving, EachWithin, Remainder};
 

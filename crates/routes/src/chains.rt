@@ -1,5 +1,5 @@
 // The chains: from an object to each of its places, the last first, at the cost of its degree.
-use crate::search::place_at;
+use arrays::place_at;
 use limits::ENDS;
 use limits::OBJECTS;
 ghost use Rattle.routes.specs.Chains.{Named, Chained};

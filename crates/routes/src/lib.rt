@@ -2,8 +2,6 @@
 // Over weights and ends alone. Arrays have room for the limits; n objects and m constraints are in use.
 pub mod answer;
 pub mod chains;
-pub mod ends;
-pub mod number;
 pub mod release;
 pub mod search;
 pub mod settle;

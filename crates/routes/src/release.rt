@@ -1,6 +1,6 @@
 // Releasing an object: its shares go back to their constraints, and it has no room. m and ends stand for the statement.
 use crate::search::head_of;
-use crate::search::place_at;
+use arrays::place_at;
 use limits::ENDS;
 use limits::OBJECTS;
 ghost use Rattle.routes.specs.Release.{Releasing, Released};

@@ -1,12 +1,13 @@
 // The route search: from a constraint to its objects, and from a full object to the constraints with a share there.
-use crate::number::two_bytes;
+use arrays::place_at;
+use arrays::two_bytes;
 use limits::CONSTRAINTS;
 use limits::ENDS;
 use limits::OBJECTS;
 ghost use mathlib.Core.Path.{_≡_};
 ghost use Prim.Native.Nat.{_<_};
 ghost use Rattle.limits.specs.Limits.{mostObjects, mostEnds};
-ghost use Rattle.routes.specs.At.{at};
+ghost use Rattle.arrays.specs.At.{at};
 ghost use Rattle.routes.specs.State.{state};
 ghost use Rattle.routes.specs.Search.{routeOf, ReadyConstraint, ReadyObject, FromConstraint, FromObject};
 ghost use Rattle.routes.specs.Search.{Waiting, UsingRoom, UsedRoom, Shifting, shifted};
@@ -33,14 +34,6 @@ impl Route {
             marks,
         }
     }
-}
-
-// What stands at a place: of ends an object, of next one more than a place.
-pub fn place_at(i: usize, list: &[u16; ENDS]) -> usize
-    requires { ⌜ i < mostEnds ⌝ }
-    ensures { λ r. ⌜ r ≡ at (now (list .entry)) i ⌝ }
-{
-    two_bytes(list[i])
 }
 
 // One more than the last place of an object.

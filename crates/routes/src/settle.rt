@@ -1,14 +1,14 @@
 // Settling: each constraint gives what weight it has left along routes, or is stuck.
-use crate::number::one_byte;
-use crate::number::two_bytes;
 use crate::search::Marks;
 use crate::search::from_constraint;
+use arrays::one_byte;
+use arrays::two_bytes;
 use limits::CONSTRAINTS;
 use limits::ENDS;
 use limits::OBJECTS;
 ghost use mathlib.Core.Path.{_≡_};
 ghost use Prim.Native.Nat.{_+_};
-ghost use Rattle.routes.specs.At.{at};
+ghost use Rattle.arrays.specs.At.{at};
 ghost use Rattle.routes.specs.State.{state, bothShares};
 ghost use Rattle.routes.specs.Settle.{Settling, Settled, HandingOut, HandedOut, WithinWeight, NeedsRoute};
 

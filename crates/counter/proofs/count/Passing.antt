@@ -9,10 +9,10 @@ use Rattle.density.specs.Net.{Net}
 use Rattle.density.specs.Top.{Top, NoneAt}
 use Rattle.density.proofs.OneAnswer.{NoneBelow, answer-top, lowest-so, none-up-to}
 use Rattle.routes.specs.declared.answer.Solution.{Solution}
-use Rattle.routes.specs.Arrays.{members}
-use Rattle.counter.specs.declared.net.NetArrays.{NetArrays}
+use Rattle.arrays.specs.Arrays.{members}
+use Rattle.net.specs.declared.NetArrays.{NetArrays}
 use Rattle.counter.specs.declared.block.Block.{Block}
-use Rattle.counter.specs.NetFor.{netHeld}
+use Rattle.net.specs.NetFor.{netHeld}
 use Rattle.counter.specs.Counting.{SolvedIn, blockFrom, LowestIn, Sought}
 
 module _ (a : NetArrays) (k : ℤ) (c : ℕ) (top : Solution) (none : NoneBelow (netHeld a) k c) (solved : SolvedIn a c top) where

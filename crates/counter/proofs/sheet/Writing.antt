@@ -7,10 +7,10 @@ use native.Mathlib.Omega.{arith}
 use lib.ListN.{length, take, drop, set, length-set, take-append-drop}
 use lib.Seq.{getD-set-same, getD-set-other, getD-take, drop-set-lt, drop-drop, length-take-le}
 use Rattle.density.specs.Net.{Side, first, second}
-use Rattle.routes.specs.At.{at}
-use Rattle.routes.specs.Arrays.{sharesIn}
+use Rattle.arrays.specs.At.{at}
+use Rattle.arrays.specs.Arrays.{sharesIn}
 use Rattle.drawing.specs.Format.{twoAt}
-use Rattle.counter.specs.Sheet.{sheetSize, sheetIn}
+use Rattle.checker.specs.Sheet.{sheetSize, sheetIn}
 use Rattle.counter.specs.Written.{SheetWritten}
 
 -- a number in two bytes, read back and beside others

@@ -1,4 +1,4 @@
--- A test of a row of the table that the checker computes, and the law that a row that passes it is correct. Assumes nothing.
+-- A test of a row of the table that the prover computes, and the law that a row that passes it is correct. Assumes nothing.
 use mathlib.Core.Path.{_≡_, sym, ap, ap₂, subst}
 use mathlib.Core.Bool.{Bool, not, _&&_}
 use Prim.Native.Nat.{ℕ, _≤_, _<_}

@@ -1,7 +1,7 @@
 -- `say_lines` meets its contract. Assumes nothing.
 use Prim.Native.Nat.{_-_, _≤_}
 use native.Mathlib.Omega.{arith}
-use Rattle.counter.proofs.Nets.{solving}
+use Rattle.counter.proofs.Solving.{solving}
 use borrow.Author.Needs.{needs}
 use Rattle.report.proofs.say_lines.Statement.{statement}
 use Rattle.report.proofs.say_lines.Tie as tie

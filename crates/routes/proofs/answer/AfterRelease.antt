@@ -7,7 +7,7 @@ use native.Mathlib.Omega.{arith}
 use lib.Dec.{eqb}
 use Rattle.density.specs.Sum.{counted}
 use Rattle.density.proofs.Sums.{sum-same, sum-zero}
-use Rattle.routes.specs.At.{at}
+use Rattle.arrays.specs.At.{at}
 use Rattle.routes.specs.State.{state, bothShares, load}
 use Rattle.routes.specs.Settle.{Kept}
 use Rattle.routes.specs.Release.{Released}
@@ -35,12 +35,12 @@ module _ {m v : ℕ} {ends shares room shares′ room′ : List ℕ} (h : Releas
   share-less : (k : ℕ) → k < 2 * m → at shares′ k ≤ at shares k
   share-less k b = ⊎-elim (λ e. omega (arith, h .gone k b e)) (λ n. omega (arith, h .stay k n)) (same-or-not (at ends k) v)
 
-  total-less : (e : ℕ) → e < m → bothShares shares′ e ≤ bothShares shares e
-  total-less e b = omega (arith, share-less (2 * e) (omega arith), share-less (2 * e + 1) (omega arith))
+  both-less : (e : ℕ) → e < m → bothShares shares′ e ≤ bothShares shares e
+  both-less e b = omega (arith, share-less (2 * e) (omega arith), share-less (2 * e + 1) (omega arith))
 
   -- the constraint at a place of v that had a share there has weight left
-  total-falls : (k : ℕ) → k < 2 * m → at ends k ≡ v → 0 < at shares k → bothShares shares′ (k / 2) < bothShares shares (k / 2)
-  total-falls k b is =
+  both-falls : (k : ℕ) → k < 2 * m → at ends k ≡ v → 0 < at shares k → bothShares shares′ (k / 2) < bothShares shares (k / 2)
+  both-falls k b is =
       by-place (λ x. at shares′ x ≡ 0 → 0 < at shares x → bothShares shares′ (k / 2) < bothShares shares (k / 2)) (k / 2) refl
       (λ z p. omega (arith, share-less (2 * (k / 2) + 1) (omega arith))) (λ z p. omega (arith, share-less (2 * (k / 2)) (omega arith))) (h .gone k b is)
 
@@ -52,7 +52,7 @@ module _ {m v : ℕ} {ends shares room shares′ room′ : List ℕ} (h : Releas
         (λ e. subst (λ (x : ℕ). load m ends shares′ x + at room′ x ≤ 255) (sym e) (omega (arith, load-gone, h .no-room)))
         (λ n. omega (arith, load-stays (at ends i) n, h .rooms (at ends i) n, kept .bounded i b))
         (same-or-not (at ends i) v);
-    fits = λ e b. omega (arith, total-less e b, kept .fits e b);
+    fits = λ e b. omega (arith, both-less e b, kept .fits e b);
     closed = kept .closed;
     full = λ u y. ⊎-elim
         (λ e. subst (λ (x : ℕ). at room′ x ≡ 0) (sym e) (h .no-room))
@@ -60,9 +60,9 @@ module _ {m v : ℕ} {ends shares room shares′ room′ : List ℕ} (h : Releas
         (same-or-not u v);
     goes-on = λ k b y p. kept .goes-on k b y (omega (arith, share-less k b));
     least = λ S starts goes. kept .least S
-        (λ e b y l. starts e b y (omega (arith, total-less e b)))
+        (λ e b y l. starts e b y (omega (arith, both-less e b)))
         (λ k b y inside p. ⊎-elim
-        (λ e. starts (k / 2) (omega arith) (kept .goes-on k b y p) (omega (arith, total-falls k b e p, kept .fits (k / 2) (omega arith))))
+        (λ e. starts (k / 2) (omega arith) (kept .goes-on k b y p) (omega (arith, both-falls k b e p, kept .fits (k / 2) (omega arith))))
         (λ n. goes k b y inside (omega (arith, h .stay k n)))
         (same-or-not (at ends k) v));
   }

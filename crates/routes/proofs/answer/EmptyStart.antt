@@ -8,11 +8,11 @@ use Rattle.density.specs.Sum.{counted}
 use Rattle.density.proofs.Sums.{sum-zero, counted-le}
 use lib.Dec.{eqb}
 use Rattle.limits.specs.Limits.{mostObjects, mostConstraints, mostEnds}
-use Rattle.routes.specs.At.{at}
+use Rattle.arrays.specs.At.{at}
 use Rattle.routes.specs.Chains.{Chained, Named}
 use Rattle.routes.specs.State.{State, state, load}
 use Rattle.routes.specs.Settle.{Settling, Settled}
-use Rattle.routes.specs.Arrays.{Fair}
+use Rattle.arrays.specs.Arrays.{Fair}
 use Rattle.routes.specs.Answer.{Spread}
 use Rattle.routes.proofs.Places.{length-zeros, at-zeros}
 

@@ -6,7 +6,7 @@ use native.Mathlib.Omega.{arith}
 use native.Mathlib.Numerals.{add-one}
 use Rattle.density.specs.Sum.{sum}
 use Rattle.limits.specs.Limits.{mostWeight}
-use Rattle.routes.specs.At.{at}
+use Rattle.arrays.specs.At.{at}
 use Rattle.routes.specs.State.{bothShares}
 use Rattle.routes.specs.Settle.{WithinWeight}
 use Rattle.routes.specs.Answer.{EachWithin, Remainder}

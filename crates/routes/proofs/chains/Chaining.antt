@@ -6,7 +6,7 @@ use Prim.Native.Nat.{ℕ, _+_, _-_, _*_, _<_, _≤_}
 use native.Mathlib.Omega.{arith}
 use lib.ListN.{length, set, length-set, replicate}
 use Rattle.limits.specs.Limits.{mostObjects, mostEnds}
-use Rattle.routes.specs.At.{at}
+use Rattle.arrays.specs.At.{at}
 use Rattle.routes.specs.Chains.{Last, Named, Chained}
 use Rattle.routes.proofs.Cases.{same-or-not}
 use Rattle.routes.proofs.Places.{at-set-here, at-set-off, length-zeros, at-zeros}

@@ -6,7 +6,7 @@ use Prim.Native.Nat.{ℕ, _-_, _*_, _<_, _≤_}
 use native.Mathlib.Omega.{arith}
 use lib.ListN.{length, set, length-set}
 use Rattle.limits.specs.Limits.{mostEnds}
-use Rattle.routes.specs.At.{at}
+use Rattle.arrays.specs.At.{at}
 use Rattle.routes.specs.Release.{Releasing, Released}
 use Rattle.routes.proofs.Places.{at-set-here, at-set-off}
 use Rattle.routes.proofs.AlongChain.{OnChain, chain-starts, none-before, turn-place, turn-less, turn-on, turn-past}

@@ -6,7 +6,7 @@ use mathlib.Core.Bool.{Bool, false}
 use Prim.Native.Nat.{ℕ, _-_, _*_, _/_, _<_, _≤_}
 use native.Mathlib.Nat.{eq-zero-or-pos}
 use native.Mathlib.Omega.{arith}
-use Rattle.routes.specs.At.{at, Marked, Clear}
+use Rattle.arrays.specs.At.{at, Marked, Clear}
 use Rattle.routes.specs.State.{State, state, Sized, Grown, BothIn, bothShares}
 use Rattle.routes.specs.Search.{NoRoute, Moved, FromConstraint}
 use Rattle.routes.specs.Settle.{Kept, Onward}
@@ -31,7 +31,7 @@ onward-then g h = record {
 module _ {m e : ℕ} {ends takes : List ℕ} {s u : State} (kept : Kept m ends takes s) (is : e < m) (left : bothShares (s .shares) e < at takes e) where
   module _ (clear : Clear (s .constraints) e) (sized : Sized u) (moved : Moved m e ends s u) where
     off : (x : ℕ) → Marked (s .constraints) x → bothShares (u .shares) x ≡ bothShares (s .shares) x
-    off x h = omega (arith, moved .totals x, counted-off e x 1 (λ q. absurd (omega (arith, ap (λ (y : ℕ). at (s .constraints) y) q))))
+    off x h = omega (arith, moved .both-shares x, counted-off e x 1 (λ q. absurd (omega (arith, ap (λ (y : ℕ). at (s .constraints) y) q))))
 
     same-share : (k : ℕ) → k < 2 * m → Marked (s .objects) (at ends k) → 0 < at (u .shares) k → 0 < at (s .shares) k
     same-share k b h p = omega (arith, moved .kept k b h)
@@ -41,8 +41,8 @@ module _ {m e : ℕ} {ends takes : List ℕ} {s u : State} (kept : Kept m ends t
       sized = record { objects = kept .sized .objects; constraints = kept .sized .constraints; shares = sized .shares; room = sized .room };
       bounded = bounded-moved (kept .bounded) moved;
       fits = λ x b. ⊎-elim
-          (λ q. subst (λ (y : ℕ). bothShares (u .shares) y ≤ at takes y) q (omega (arith, moved .totals e, counted-here e e 1 refl)))
-          (λ n. omega (arith, moved .totals x, counted-off e x 1 n, kept .fits x b))
+          (λ q. subst (λ (y : ℕ). bothShares (u .shares) y ≤ at takes y) q (omega (arith, moved .both-shares e, counted-here e e 1 refl)))
+          (λ n. omega (arith, moved .both-shares x, counted-off e x 1 n, kept .fits x b))
           (same-or-not e x);
       closed = kept .closed;
       full = λ v h. omega (arith, moved .rooms v, kept .full v h);
@@ -55,11 +55,11 @@ module _ {m e : ℕ} {ends takes : List ℕ} {s u : State} (kept : Kept m ends t
     pub onward-moved : Onward m ends takes s (dropped s u)
     onward-moved = record {
       loads = moved .loads;
-      done = λ x b d l. d (omega (arith, moved .totals x));
+      done = λ x b d l. d (omega (arith, moved .both-shares x));
     }
 
     pub moved-less : at takes e - bothShares (u .shares) e < at takes e - bothShares (s .shares) e
-    moved-less = omega (arith, moved .totals e, counted-here e e 1 refl)
+    moved-less = omega (arith, moved .both-shares e, counted-here e e 1 refl)
 
   module _ {found : Bool} {count : ℕ} (after : FromConstraint m e ends s u found count) (failed : found ≡ false) where
     no-route : NoRoute m ends (λ S. BothIn ends S e) s u
@@ -68,8 +68,8 @@ module _ {m e : ℕ} {ends takes : List ℕ} {s u : State} (kept : Kept m ends t
     grown : Grown s u
     grown = after .searched .grown
 
-    same-total : (x : ℕ) → bothShares (u .shares) x ≡ bothShares (s .shares) x
-    same-total x = ap (λ (l : List ℕ). bothShares l x) (no-route .unmoved .shares)
+    same-both : (x : ℕ) → bothShares (u .shares) x ≡ bothShares (s .shares) x
+    same-both x = ap (λ (l : List ℕ). bothShares l x) (no-route .unmoved .shares)
 
     same-room : (v : ℕ) → at (u .room) v ≡ at (s .room) v
     same-room v = ap (λ (l : List ℕ). at l v) (no-route .unmoved .room)
@@ -81,7 +81,7 @@ module _ {m e : ℕ} {ends takes : List ℕ} {s u : State} (kept : Kept m ends t
     kept-no-route = record {
       sized = after .searched .sized;
       bounded = bounded-same m ends s u (no-route .unmoved) (kept .bounded);
-      fits = λ x b. omega (arith, same-total x, kept .fits x b);
+      fits = λ x b. omega (arith, same-both x, kept .fits x b);
       closed = λ x b h i q. ⊎-elim
           (λ z. no-route .closed x z h i q)
           (λ p. grown .objects (at ends i) (kept .closed x b p i q))
@@ -95,9 +95,9 @@ module _ {m e : ℕ} {ends takes : List ℕ} {s u : State} (kept : Kept m ends t
           (λ y. grown .constraints (k / 2) (kept .goes-on k b y q))
           (eq-zero-or-pos (at (s .objects) (at ends k)));
       least = λ S starts goes v h. ⊎-elim
-          (λ z. no-route .least S goes (starts e is (after .here) (omega (arith, same-total e))) v z h)
+          (λ z. no-route .least S goes (starts e is (after .here) (omega (arith, same-both e))) v z h)
           (λ p. kept .least S
-          (λ x b y l. starts x b (grown .constraints x y) (omega (arith, same-total x)))
+          (λ x b y l. starts x b (grown .constraints x y) (omega (arith, same-both x)))
           (goes-earlier m ends s u S grown (no-route .unmoved .shares) goes) v p)
           (eq-zero-or-pos (at (s .objects) v));
     }
@@ -105,5 +105,5 @@ module _ {m e : ℕ} {ends takes : List ℕ} {s u : State} (kept : Kept m ends t
     pub onward-no-route : Onward m ends takes s u
     onward-no-route = record {
       loads = same-load m ends s u (no-route .unmoved);
-      done = λ x b d l. grown .constraints x (d (omega (arith, same-total x)));
+      done = λ x b d l. grown .constraints x (d (omega (arith, same-both x)));
     }

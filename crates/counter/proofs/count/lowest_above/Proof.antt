@@ -5,10 +5,10 @@ use native.Mathlib.Omega.{arith}
 use mir.Facts.{toZ-ofZ}
 use lib.IntN.{subℕ}
 use Rattle.density.proofs.OneAnswer.{NoneBelow}
-use Rattle.routes.specs.Arrays.{netIn}
+use Rattle.arrays.specs.Arrays.{netIn}
 use Rattle.counter.specs.Range.{inRange, raise}
 use Rattle.counter.proofs.count.Passing.{one-more, found-here, one-found, none-found}
-use Rattle.counter.proofs.Nets.{solving}
+use Rattle.counter.proofs.Solving.{solving}
 use borrow.Author.Needs.{needs}
 use Rattle.counter.proofs.count.lowest_above.Statement.{statement}
 use Rattle.counter.proofs.count.lowest_above.Tie as tie

@@ -1,5 +1,5 @@
 -- `counter::count::one` meets its contract. Assumes nothing.
-use Rattle.counter.proofs.Nets.{solving}
+use Rattle.counter.proofs.Solving.{solving}
 use borrow.Author.Needs.{needs}
 use Rattle.counter.proofs.count.one.Statement.{statement}
 use Rattle.counter.proofs.count.one.Tie as tie

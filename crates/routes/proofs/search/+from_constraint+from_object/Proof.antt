@@ -21,7 +21,7 @@ use Rattle.routes.proofs.search.+from_constraint+from_object.Lts-from_o
 use Rattle.routes.proofs.search.use_room.Reads as use-room-reads
 use Rattle.routes.proofs.search.head_of.Reads as head-of-reads
 use Rattle.routes.proofs.search.Route.new.Reads as new-reads
-use Rattle.routes.proofs.search.place_at.Reads as place-at-reads
+use Rattle.arrays.proofs.place_at.Reads as place-at-reads
 use Rattle.routes.proofs.search.shift.Reads as shift-reads
 use Rattle.routes.proofs.search.waiting.Reads as waiting-reads
 use Rattle.routes.proofs.search.+from_constraint+from_object.{statement}

@@ -6,7 +6,7 @@ use native.Mathlib.Nat.{pos-of-ne-zero}
 use native.Mathlib.Omega.{arith}
 use lib.Dec.{T}
 use mathlib.Core.Path.{subst, sym}
-use Rattle.routes.specs.At.{at}
+use Rattle.arrays.specs.At.{at}
 use Rattle.routes.proofs.search.waiting.Statement.{statement}
 use Rattle.routes.proofs.search.waiting.Tie as tie
 

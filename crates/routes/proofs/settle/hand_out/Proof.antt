@@ -3,7 +3,7 @@ use Prim.Native.Nat.{_-_, _<_}
 use native.Mathlib.Nat.{pos-of-ne-zero}
 use native.Mathlib.Omega.{arith}
 use borrow.Author.Tests.{not-true, not-false}
-use Rattle.routes.specs.At.{at}
+use Rattle.arrays.specs.At.{at}
 use Rattle.routes.specs.State.{State, state, bothShares}
 use Rattle.routes.proofs.settle.OneConstraint.{Going, going-start, going-asks, going-left, going-less, going-on, going-no-route, going-end}
 use borrow.Author.Needs.{needs}

@@ -5,7 +5,7 @@ use native.Mathlib.Omega.{arith}
 use borrow.Author.Needs.{needs}
 use borrow.Author.Tests.{eqb-true, eqb-false}
 use lib.Dec.{T}
-use Rattle.routes.specs.At.{at}
+use Rattle.arrays.specs.At.{at}
 use Rattle.routes.proofs.settle.needs_route.Statement.{statement}
 use Rattle.routes.proofs.settle.needs_route.Tie as tie
 

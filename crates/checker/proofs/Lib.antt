@@ -1,0 +1,4 @@
+-- laws of the check of a sheet
+mod AddingUp
+mod Claimed
+mod Deciding

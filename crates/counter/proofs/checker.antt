@@ -1,4 +1,0 @@
--- Laws of the check of a sheet.
-mod AddingUp
-mod Claimed
-mod Deciding

@@ -1,2 +1,0 @@
--- Laws of the door from bytes to a net.
-mod Standing
