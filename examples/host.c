@@ -4,8 +4,8 @@
  *   host [-s] DRAWING [K [C]]
  *
  * K is -3 unless given. C is the constraint to look at: unless given, the one that is dense at K, or else 0. With -s
- * the sheet's shares are printed too. The exit status is 0 where every call was answered, 1 where one was refused, and
- * 2 where the words or the file are no good.
+ * the sheet's shares are printed too. The exit status is 0 where no call was refused, 1 where one was, and 2 where the
+ * words or the file are no good.
  */
 #include <brentivex.h>
 

@@ -36,7 +36,7 @@ rows() {
         END { exit !(rows == 28 && rows == wanted_rows && sum == wanted) }'
 }
 
-# The exit status is 0 where all is answered, 1 where a call is refused, 2 where the words or the file are no good.
+# The exit status is 0 where no call is refused, 1 where one is, 2 where the words or the file are no good.
 statuses() {
     "$1" examples/D.drawing > "$work/out" && { "$1" examples/refused.drawing > "$work/out"; [ $? -eq 1 ]; } &&
         { "$1" examples/D.drawing 3x 2> "$work/out"; [ $? -eq 2 ]; } &&

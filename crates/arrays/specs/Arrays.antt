@@ -1,9 +1,8 @@
--- The one place at which arrays become a net, a sheet and a set. Assumes nothing.
+-- The one place at which arrays become a net and a sheet. Assumes nothing.
 use mathlib.Core.Logic.{_≢_}
 use mathlib.Core.List.{List}
 use Prim.Native.Nat.{ℕ, _+_, _*_, _<_, _≤_}
-use lib.Dec.{ltb}
-use Rattle.density.specs.Net.{Net, Set, Side, first, second}
+use Rattle.density.specs.Net.{Net, Side, first, second}
 use Rattle.density.specs.Sheet.{Sheet}
 use Rattle.limits.specs.Limits.{mostObjects, mostConstraints, mostWeight}
 use Rattle.arrays.specs.At.{at}
@@ -26,10 +25,6 @@ netIn n m ends weights takes = record {
 -- the shares by place
 abbrev pub sharesIn : List ℕ → Sheet
 sharesIn shares i e = at shares (place i e)
-
--- the marked objects
-abbrev pub members : List ℕ → Set
-members objects v = ltb 0 (at objects v)
 
 -- 01, 'What it covers': within the limits, every end names an object, no constraint has both ends the same, and no
 -- weight is above its limit

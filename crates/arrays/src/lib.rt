@@ -26,7 +26,7 @@ pub fn two_bytes(x: u16) -> usize
     x as usize
 }
 
-// What stands at a place: of ends an object, of the links of a chain one more than a place.
+// What stands at a place.
 pub fn place_at(i: usize, list: &[u16; ENDS]) -> usize
     requires { ⌜ i < mostEnds ⌝ }
     ensures { λ r. ⌜ r ≡ at (now (list .entry)) i ⌝ }

@@ -7,7 +7,7 @@ pub mod Agree
 pub mod DemandOne
 pub mod DemandTwo
 pub mod DemandThree
--- what the proofs of this crate share
+-- what only the proofs of this crate use
 mod Sizes
 mod SignedK
 mod Faults

@@ -17,7 +17,8 @@ use Rattle.density.proofs.OneAnswer.{answer-top}
 use Rattle.drawing.specs.Entry.{Drawing}
 use Rattle.drawing.specs.Read.{Reading}
 use Rattle.routes.specs.declared.answer.Solution.{Solution}
-use Rattle.arrays.specs.Arrays.{sharesIn, members}
+use Rattle.arrays.specs.Arrays.{sharesIn}
+use Rattle.routes.specs.Marked.{members}
 use Rattle.routes.specs.Solved.{Solved}
 use Rattle.net.specs.declared.NetArrays.{NetArrays}
 use Rattle.counter.specs.declared.block.Block.{Block}

@@ -1,4 +1,4 @@
--- what a reader must believe: the bytes of an answer, the faults, and the questions
+-- what a reader must believe: the block, the faults, and the questions
 pub mod Block
 pub mod Range
 pub mod Fault

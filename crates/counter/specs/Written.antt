@@ -7,7 +7,8 @@ use lib.IntN.{subℕ}
 use lib.ListN.{length}
 use Rattle.limits.specs.Limits.{mostObjects}
 use Rattle.density.specs.Net.{Side}
-use Rattle.arrays.specs.Arrays.{sharesIn, members}
+use Rattle.arrays.specs.Arrays.{sharesIn}
+use Rattle.routes.specs.Marked.{members}
 use Rattle.counter.specs.declared.block.Block.{Block}
 use Rattle.counter.specs.declared.block.Finding.{Finding}
 use Rattle.counter.specs.Block.{block}

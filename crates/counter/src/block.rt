@@ -9,7 +9,7 @@ ghost use lib.IntN.{subℕ};
 ghost use lib.ListN.{length, set};
 ghost use Rattle.density.specs.Sum.{counted};
 ghost use Rattle.limits.specs.Limits.{mostObjects};
-ghost use Rattle.arrays.specs.Arrays.{members};
+ghost use Rattle.routes.specs.Marked.{members};
 ghost use Rattle.counter.specs.Outcome.{over};
 ghost use Rattle.counter.specs.Written.{Writable, blockBytes, FindingWritten};
 ghost use Rattle.counter.specs.Block.{two, complement, numbersSize, setSize, setByte, setBytes, blockSize};

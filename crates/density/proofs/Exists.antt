@@ -1,4 +1,4 @@
--- For every constraint of every net the answer set exists. 01, 'Density': "That it exists is part of the work."
+-- For every constraint of every proper net the answer set exists. 01, 'Density': "That it exists is part of the work."
 -- Among the finitely many sets that hold c one is densest, and among the densest one has fewest objects: two densest sets share a
 -- densest set, so the smallest lies inside every other. No code is needed for it. Assumes nothing.
 mod BestSet

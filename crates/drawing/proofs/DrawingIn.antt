@@ -3,11 +3,11 @@ use mathlib.Core.Path.{_≡_, sym, ap, _∙_}
 use mathlib.Core.Logic.{⊎-elim}
 use Prim.Native.Nat.{ℕ, _≤_, _<_}
 use lib.ListN.{length, getD}
-use Rattle.drawing.specs.Arrays.{Arrays, objectIn, constraintIn, drawingIn, Tidy}
+use Rattle.drawing.specs.EntryArrays.{EntryArrays, objectIn, constraintIn, drawingIn, Tidy}
 use Rattle.drawing.specs.Entry.{objectAt, constraintAt, kindOf, noObject, noConstraint}
 use Rattle.drawing.proofs.Tabulated.{below-or-past, length-tabulated, getD-tabulated, getD-past}
 
-module _ (a : Arrays) (n m : ℕ) where
+module _ (a : EntryArrays) (n m : ℕ) where
   pub objects-count : length (drawingIn a n m .objects) ≡ n
   unfolding drawingIn
   objects-count = length-tabulated n (objectIn a)

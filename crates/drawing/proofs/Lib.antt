@@ -1,11 +1,11 @@
--- what other crates cite: choices by tests, lists of values, the drawing in the arrays, a reading, what `read` answers, the weights
+-- what other crates cite: choices by tests, lists of values, the drawing in the arrays, a reading, what the reader answers, the weights
 pub mod Choice
 pub mod Tabulated
 pub mod DrawingIn
 pub mod Reading
 pub mod ReadInto
 pub mod WeightRange
--- what the proofs of this crate share
+-- what only the proofs of this crate use
 mod Faults
 mod RecordAt
 mod Stores

@@ -1,4 +1,4 @@
--- What `read` answers, and `weigh` after it, for their callers: what the bytes are, and at code 0 what the arrays hold. Assumes nothing.
+-- What the reader answers, and `weigh` after it, for their callers: what the bytes are, and at code 0 what the arrays hold. Assumes nothing.
 use mathlib.Core.Path.{_≡_, refl, sym, ap, _∙_}
 use mathlib.Core.List.{List}
 use Prim.Native.Nat.{ℕ, zero, suc, _<_}
@@ -6,7 +6,7 @@ use lib.ListN.{length, getD}
 use Rattle.drawing.specs.Entry.{kindOf}
 use Rattle.drawing.specs.Read.{Reading, refused, accepted, unless, read}
 use Rattle.drawing.specs.Sound.{SoundConstraint, SoundDrawing, FairWeight}
-use Rattle.drawing.specs.Arrays.{Arrays, constraintIn, drawingIn, ReadInto, ProperEnds}
+use Rattle.drawing.specs.EntryArrays.{EntryArrays, constraintIn, drawingIn, ReadInto, ProperEnds}
 use Rattle.drawing.specs.WeightArrays.{WeightsIn}
 use Rattle.drawing.proofs.Reading.{accepted-sound}
 use Rattle.drawing.proofs.DrawingIn.{objects-count, constraints-count, constraint-is}
@@ -16,7 +16,7 @@ pub as-refused : (f : ℕ) (x : Reading) → (f ≡ 0 → ⊥) → refused f ≡
 as-refused zero x h = absurd (h refl)
 as-refused (suc f) x h = refl
 
-module _ (s : List ℕ) (code n m : ℕ) (a : Arrays) (into : ReadInto s code n m a) where
+module _ (s : List ℕ) (code n m : ℕ) (a : EntryArrays) (into : ReadInto s code n m a) where
   -- a code other than 0 is the refusal's number
   pub read-refused : (code ≡ 0 → ⊥) → read s ≡ refused code
   read-refused h = into .reading ∙ sym (as-refused code (accepted (drawingIn a n m)) h)

@@ -5,7 +5,7 @@ use Prim.Native.Nat.{ℕ, _+_, _<_}
 use native.Mathlib.Omega.{arith}
 use lib.ListN.{getD, set, length-set}
 use lib.Seq.{getD-set-same, getD-set-other}
-use Rattle.drawing.specs.Arrays.{ZeroFrom}
+use Rattle.drawing.specs.EntryArrays.{ZeroFrom}
 
 -- below the index of a store nothing changes
 pub below-store : (l : List ℕ) (k v i : ℕ) → i < k → getD (set l k v) i 0 ≡ getD l i 0

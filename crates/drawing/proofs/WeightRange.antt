@@ -1,12 +1,14 @@
--- Every weight in force of an accepted drawing is 1 to 15. Assumes nothing.
+-- Every weight in force of an accepted drawing is 1 to 15, and where there is no constraint it is 0. Assumes nothing.
+use mathlib.Core.Path.{_≡_, ap}
 use mathlib.Core.Bool.{_||_}
 use Prim.Native.Nat.{ℕ, _≤_, _<_}
 use native.Mathlib.Omega.{arith}
 use lib.ListN.{length}
 use lib.Dec.{eqb, lit≤}
 use borrow.Author.Tests.{eqb-false}
-use Rattle.drawing.specs.Table.{freeCircle, cluster, objectTable, tableWeight}
-use Rattle.drawing.specs.Entry.{Drawing, kindOf}
+use Rattle.drawing.specs.Choice.{pick}
+use Rattle.drawing.specs.Table.{freeCircle, cluster, objectTable, tableWeight, allowed}
+use Rattle.drawing.specs.Entry.{Drawing, constraintAt, noConstraint, kindOf}
 use Rattle.limits.specs.Limits.{mostWeight}
 use Rattle.drawing.specs.Sound.{SoundDrawing, FairWeight}
 use Rattle.drawing.specs.Weight.{inForce, objectWeight, constraintWeight}
@@ -41,3 +43,7 @@ module _ (d : Drawing) (sound : SoundDrawing d) where
   constraint-weight e h =
       let c = sound .constraints-sound e h in
       in-force _ _ (c .small) (constraint-in-table _ _ _ (c .in-table))
+
+pub none-weighs-nothing : (d : Drawing) (e : ℕ) → constraintAt d e ≡ noConstraint → constraintWeight d e ≡ 0
+unfolding constraintWeight inForce tableWeight allowed pick
+none-weighs-nothing d e none = ap (λ c. inForce (c .stated) (tableWeight (c .kind) (kindOf d (c .first)) (kindOf d (c .second)))) none

@@ -9,11 +9,11 @@ use Rattle.drawing.specs.Table.{objectTable, tableWeight}
 use Rattle.drawing.specs.Entry.{kindOf}
 use Rattle.limits.specs.Limits.{mostObjects, mostConstraints}
 use Rattle.drawing.specs.Weight.{inForce, objectWeight, constraintWeight}
-use Rattle.drawing.specs.Arrays.{Arrays, drawingIn, Tidy}
+use Rattle.drawing.specs.EntryArrays.{EntryArrays, drawingIn, Tidy}
 use Rattle.drawing.specs.WeightArrays.{Filled, objectValue, constraintValue, WeightsIn}
 use Rattle.drawing.proofs.DrawingIn.{object-is, constraint-is, kind-is}
 
-module _ (a : Arrays) (n m : ℕ) (t : Tidy n m a) where
+module _ (a : EntryArrays) (n m : ℕ) (t : Tidy n m a) where
   object-value : (i : ℕ) → i < n → objectValue (a .objectKinds) (a .objectStated) i ≡ objectWeight (drawingIn a n m) i
   unfolding objectWeight
   object-value i h = ap (λ (o : Object). inForce (o .stated) (objectTable (o .kind))) (sym (object-is a n m i h))

@@ -11,5 +11,5 @@ pub mod Sound
 pub mod Samples
 -- what only states contracts: the cases of the code's enum, and what the arrays hold
 pub mod Found
-pub mod Arrays
+pub mod EntryArrays
 pub mod WeightArrays

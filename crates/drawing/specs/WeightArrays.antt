@@ -6,7 +6,7 @@ use lib.ListN.{getD}
 use Rattle.drawing.specs.Table.{objectTable, tableWeight}
 use Rattle.limits.specs.Limits.{mostObjects, mostConstraints}
 use Rattle.drawing.specs.Weight.{inForce, objectWeight, constraintWeight}
-use Rattle.drawing.specs.Arrays.{Arrays, drawingIn, ZeroFrom}
+use Rattle.drawing.specs.EntryArrays.{EntryArrays, drawingIn, ZeroFrom}
 
 -- an array of a length that holds f 0 .. f (k - 1), and zeros from there on
 pub record Filled (long k : ℕ) (f : ℕ → ℕ) (l : List ℕ) : Type 0 where
@@ -23,6 +23,6 @@ constraintValue ends objectKinds kinds stated e =
     (tableWeight (getD kinds e 0) (getD objectKinds (getD ends (2 * e) 0) 0) (getD objectKinds (getD ends (2 * e + 1) 0) 0))
 
 -- the weights in force of the drawing in the arrays, zero past the counts
-pub record WeightsIn (a : Arrays) (n m : ℕ) (objects constraints : List ℕ) : Type 0 where
+pub record WeightsIn (a : EntryArrays) (n m : ℕ) (objects constraints : List ℕ) : Type 0 where
   pub object-weights : Filled mostObjects n (objectWeight (drawingIn a n m)) objects
   pub constraint-weights : Filled mostConstraints m (constraintWeight (drawingIn a n m)) constraints

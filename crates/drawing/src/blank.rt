@@ -1,9 +1,9 @@
-// Arrays of zeros, in which a drawing is read and weighed.
+// EntryArrays of zeros, in which a drawing is read and weighed.
 use limits::CONSTRAINTS;
 use limits::ENDS;
 use limits::OBJECTS;
 ghost use Rattle.limits.specs.Limits.{mostObjects, mostConstraints, mostEnds};
-ghost use Rattle.drawing.specs.Arrays.{ZeroFrom};
+ghost use Rattle.drawing.specs.EntryArrays.{ZeroFrom};
 
 // The ends of no constraint.
 pub fn no_ends() -> [u16; ENDS]

@@ -15,7 +15,7 @@ use limits::OBJECTS;
 use reader::fill;
 use weight::weigh_constraints;
 use weight::weigh_objects;
-ghost use Rattle.drawing.specs.Arrays.{ReadInto, Tidy, arrays, arraysOf};
+ghost use Rattle.drawing.specs.EntryArrays.{ReadInto, Tidy, entryArrays, arraysOf};
 ghost use Rattle.drawing.specs.WeightArrays.{WeightsIn};
 
 // An object as read.
@@ -104,9 +104,9 @@ pub fn weigh(
     constraint_kinds: &[u8; CONSTRAINTS],
     constraint_stated: &[u8; CONSTRAINTS],
 ) -> Weights
-    requires { ⌜ Tidy n m (arrays (now ends) (now «object_kinds») (now «object_stated») (now «constraint_kinds»)
+    requires { ⌜ Tidy n m (entryArrays (now ends) (now «object_kinds») (now «object_stated») (now «constraint_kinds»)
         (now «constraint_stated»)) ⌝ }
-    ensures { λ r. ⌜ WeightsIn (arrays (now (ends .entry)) (now («object_kinds» .entry)) (now («object_stated» .entry))
+    ensures { λ r. ⌜ WeightsIn (entryArrays (now (ends .entry)) (now («object_kinds» .entry)) (now («object_stated» .entry))
         (now («constraint_kinds» .entry)) (now («constraint_stated» .entry))) n m (r .objects) (r .constraints) ⌝ }
 {
     let mut objects = no_objects();

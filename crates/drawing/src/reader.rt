@@ -13,7 +13,7 @@ use limits::OBJECTS;
 ghost use mathlib.Core.Path.{_≡_};
 ghost use lib.ListN.{length, getD};
 ghost use Rattle.limits.specs.Limits.{mostObjects};
-ghost use Rattle.drawing.specs.Arrays.{arrays, Blank, ReadInto};
+ghost use Rattle.drawing.specs.EntryArrays.{entryArrays, Blank, ReadInto};
 ghost use Rattle.drawing.specs.Read.{behindFault};
 
 // The bytes of an object record, a constraint record and an end record.
@@ -44,10 +44,10 @@ pub fn fill(
     constraint_kinds: &mut [u8; CONSTRAINTS],
     constraint_stated: &mut [u8; CONSTRAINTS],
 ) -> Counts
-    requires { ⌜ Blank (arrays (now ends) (now «object_kinds») (now «object_stated») (now «constraint_kinds»)
+    requires { ⌜ Blank (entryArrays (now ends) (now «object_kinds») (now «object_stated») (now «constraint_kinds»)
         (now «constraint_stated»)) ⌝ }
     ensures { λ r. ⌜ ReadInto (now (s .entry)) (r .code) (r .objects) (r .constraints)
-        (arrays (now (ends .exit)) (now («object_kinds» .exit)) (now («object_stated» .exit))
+        (entryArrays (now (ends .exit)) (now («object_kinds» .exit)) (now («object_stated» .exit))
         (now («constraint_kinds» .exit)) (now («constraint_stated» .exit))) ⌝ }
 {
     let mut at: usize = 0;

@@ -11,7 +11,7 @@ ghost use lib.ListN.{length};
 ghost use Rattle.limits.specs.Limits.{mostObjects, mostConstraints};
 ghost use Rattle.drawing.specs.Weight.{inForce};
 ghost use Rattle.drawing.specs.WeightArrays.{Filled, objectValue, constraintValue};
-ghost use Rattle.drawing.specs.Arrays.{ZeroFrom};
+ghost use Rattle.drawing.specs.EntryArrays.{ZeroFrom};
 
 // The stated weight, or the table weight where none is stated.
 pub fn in_force(stated: u8, table: u8) -> u8

@@ -9,15 +9,15 @@ use borrow.Author.Tests.{le-ltb}
 use lib.ListN.{length}
 use Rattle.density.specs.Net.{Side, first, second}
 use Rattle.drawing.specs.Choice.{pick}
-use Rattle.drawing.specs.Entry.{Drawing, constraintAt, kindOf, noConstraint}
+use Rattle.drawing.specs.Entry.{Drawing, constraintAt, noConstraint}
 use Rattle.drawing.specs.Read.{read}
-use Rattle.drawing.specs.Table.{tableWeight, allowed}
-use Rattle.drawing.specs.Weight.{inForce, objectWeight, constraintWeight}
-use Rattle.drawing.specs.Arrays.{Arrays, constraintIn, drawingIn, Tidy, ReadInto, ProperEnds}
+use Rattle.drawing.specs.Weight.{objectWeight, constraintWeight}
+use Rattle.drawing.specs.EntryArrays.{EntryArrays, constraintIn, drawingIn, Tidy, ReadInto, ProperEnds}
 use Rattle.drawing.specs.WeightArrays.{WeightsIn}
 use Rattle.drawing.proofs.ReadInto.{read-refused, read-accepted}
 use Rattle.drawing.proofs.ReadInto.{read-ends, read-object-weight, read-constraint-weight}
 use Rattle.drawing.proofs.Tabulated.{below-or-past, getD-past}
+use Rattle.drawing.proofs.WeightRange.{none-weighs-nothing}
 use Rattle.drawing.proofs.DrawingIn.{objects-count, constraints-count, constraint-is}
 use Rattle.arrays.specs.At.{at}
 use Rattle.arrays.specs.Arrays.{netIn, place}
@@ -27,7 +27,7 @@ use Rattle.net.specs.NetFor.{Countable, CountsFor, NetFor}
 use Rattle.net.proofs.Within.{weight-there}
 
 -- the arrays of a drawing that was read and weighed hold its net
-module _ (a : Arrays) (n m : ℕ) (os cs : List ℕ) (tidy : Tidy n m a) (w : WeightsIn a n m os cs) where
+module _ (a : EntryArrays) (n m : ℕ) (os cs : List ℕ) (tidy : Tidy n m a) (w : WeightsIn a n m os cs) where
   abbrev d : Drawing
   d = drawingIn a n m
 
@@ -56,14 +56,11 @@ module _ (a : Arrays) (n m : ℕ) (os cs : List ℕ) (tidy : Tidy n m a) (w : We
       go second (inr g) = ap (λ c. c .second) (none-past e g) ∙ sym (tidy .ends-past .zeros (2 * e + 1) (omega arith))
 
   takes-are : (e : ℕ) → constraintWeight d e ≡ at cs e
-  unfolding constraintWeight inForce tableWeight allowed pick
   takes-are e = go (below-or-past e m)
     where
       go : (e < m) ⊎ (m ≤ e) → constraintWeight d e ≡ at cs e
       go (inl l) = sym (w .constraint-weights .values e l)
-      go (inr g) =
-          ap (λ c. inForce (c .stated) (tableWeight (c .kind) (kindOf d (c .first)) (kindOf d (c .second)))) (none-past e g)
-          ∙ sym (w .constraint-weights .past .zeros e g)
+      go (inr g) = none-weighs-nothing d e (none-past e g) ∙ sym (w .constraint-weights .past .zeros e g)
 
   weighed-is : weighed d ≡ netIn n m (a .ends) os cs
   unfolding weighed
@@ -77,7 +74,7 @@ module _ (a : Arrays) (n m : ℕ) (os cs : List ℕ) (tidy : Tidy n m a) (w : We
       }
 
 -- and they stand for what was read
-pub counts-for : {s : List ℕ} {code n m : ℕ} {a : Arrays} → ReadInto s code n m a → CountsFor (read s) code n m
+pub counts-for : {s : List ℕ} {code n m : ℕ} {a : EntryArrays} → ReadInto s code n m a → CountsFor (read s) code n m
 counts-for {s} {code} {n} {m} {a} into =
     record {
       few-objects = into .tidy .few-objects;
@@ -93,7 +90,7 @@ counts-for {s} {code} {n} {m} {a} into =
           };
     }
 
-module _ {s : List ℕ} {code n m : ℕ} {a : Arrays} (into : ReadInto s code n m a) {os cs : List ℕ} (w : WeightsIn a n m os cs) where
+module _ {s : List ℕ} {code n m : ℕ} {a : EntryArrays} (into : ReadInto s code n m a) {os cs : List ℕ} (w : WeightsIn a n m os cs) where
   abbrev arrays : NetArrays
   arrays = record { code = code; objects = n; constraints = m; ends = a .ends; weights = os; takes = cs }
 

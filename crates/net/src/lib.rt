@@ -1,4 +1,4 @@
-// The one door from bytes to a question: read, or read and weighed.
+// The one door from a drawing's bytes to its net: read, or read and weighed.
 use drawing::Counts;
 use drawing::blank::no_constraints;
 use drawing::blank::no_ends;

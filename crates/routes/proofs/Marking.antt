@@ -9,7 +9,8 @@ use lib.Dec.{eqb}
 use Rattle.density.specs.Sum.{counted}
 use Rattle.density.proofs.Sums.{counted-le}
 use Rattle.limits.specs.Limits.{mostObjects}
-use Rattle.arrays.specs.At.{at, Marked, Clear}
+use Rattle.arrays.specs.At.{at}
+use Rattle.routes.specs.Marked.{Marked, Clear}
 use Rattle.routes.specs.State.{State, state, Sized, Grown, clears, unmarked}
 use Rattle.routes.proofs.Cases.{same-or-not}
 use Rattle.routes.proofs.Sums.{counted-here, sum-at, sum-le-count}

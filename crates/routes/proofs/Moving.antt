@@ -8,7 +8,8 @@ use lib.ListN.{length, set, length-set}
 use lib.Dec.{eqb}
 use Rattle.density.specs.Sum.{counted}
 use Rattle.limits.specs.Limits.{mostObjects, mostConstraints, mostEnds}
-use Rattle.arrays.specs.At.{at, Clear}
+use Rattle.arrays.specs.At.{at}
+use Rattle.routes.specs.Marked.{Clear}
 use Rattle.routes.specs.State.{State, state, Sized, Unmoved, Grown, Bounded, bothShares, load}
 use Rattle.routes.specs.Search.{Moved, lowered, raised, shifted}
 use Rattle.routes.proofs.Cases.{same-or-not}

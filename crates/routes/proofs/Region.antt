@@ -7,7 +7,8 @@ use Prim.Native.Nat.{ℕ, _*_, _/_, _<_}
 use native.Mathlib.Nat.{eq-zero-or-pos}
 use native.Mathlib.Omega.{arith}
 use lib.Dec.{T}
-use Rattle.arrays.specs.At.{at, Marked}
+use Rattle.arrays.specs.At.{at}
+use Rattle.routes.specs.Marked.{Marked}
 use Rattle.routes.specs.State.{State, Grown, GoesOn}
 use Rattle.routes.specs.Search.{NoRoute}
 use Rattle.routes.proofs.Cases.{same-or-not}

@@ -13,7 +13,7 @@ pub record Last (ends : List ℕ) (v i p : ℕ) : Type 0 where
   pub none-after : (q : ℕ) → p ≤ q → q < i → at ends q ≢ v
 
 -- every end names an object within the limits
-pub record Named (m : ℕ) (ends : List ℕ) : Type 0 where
+pub record NamedEnds (m : ℕ) (ends : List ℕ) : Type 0 where
   pub few : m ≤ mostConstraints
   pub named : (i : ℕ) → i < 2 * m → at ends i < mostObjects
 

@@ -1,4 +1,5 @@
--- what a reader must believe: what the answer for a constraint is
+-- what a reader must believe: marks as a set, and what the answer for a constraint is
+pub mod Marked
 pub mod Solved
 -- what only states the contracts of the functions
 pub mod Chains

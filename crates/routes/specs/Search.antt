@@ -9,7 +9,8 @@ use Rattle.density.specs.Sum.{counted}
 use Rattle.limits.specs.Limits.{mostObjects, mostEnds}
 use Rattle.routes.specs.declared.search.Marks.{Marks}
 use Rattle.routes.specs.declared.search.Route.{Route}
-use Rattle.arrays.specs.At.{at, Marked, Clear}
+use Rattle.arrays.specs.At.{at}
+use Rattle.routes.specs.Marked.{Marked, Clear}
 use Rattle.routes.specs.Chains.{Chained}
 use Rattle.routes.specs.State.{State, Sized, Unmoved, Grown, BothIn, GoesOn, Bounded, bothShares, load, unmarked}
 

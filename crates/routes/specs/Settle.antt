@@ -5,7 +5,8 @@ use mathlib.Core.Bool.{Bool, true, false}
 use Prim.Native.Nat.{ℕ, _+_, _*_, _/_, _<_, _≤_}
 use lib.Dec.{T}
 use Rattle.limits.specs.Limits.{mostConstraints}
-use Rattle.arrays.specs.At.{at, Marked, Clear}
+use Rattle.arrays.specs.At.{at}
+use Rattle.routes.specs.Marked.{Marked, Clear}
 use Rattle.routes.specs.Chains.{Chained}
 use Rattle.routes.specs.State.{State, Sized, BothIn, GoesOn, Bounded, bothShares, load}
 

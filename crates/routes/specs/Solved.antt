@@ -7,7 +7,8 @@ use Rattle.density.specs.Top.{AnswerSet}
 use Rattle.density.specs.Sheet.{Sound, claim}
 use Rattle.limits.specs.Limits.{mostConstraints, mostWeight}
 use Rattle.arrays.specs.At.{at}
-use Rattle.arrays.specs.Arrays.{netIn, sharesIn, members}
+use Rattle.arrays.specs.Arrays.{netIn, sharesIn}
+use Rattle.routes.specs.Marked.{members}
 
 -- 01, 'The questions': top density and answer set of c, and "a sound sheet whose claim is the top density".
 -- The density is above less below; the objects are marks, 0 for none

@@ -7,7 +7,8 @@ use lib.ListN.{length}
 use lib.Dec.{T, eqb}
 use Rattle.density.specs.Sum.{sum, counted}
 use Rattle.limits.specs.Limits.{mostObjects, mostConstraints, mostEnds}
-use Rattle.arrays.specs.At.{at, Marked}
+use Rattle.arrays.specs.At.{at}
+use Rattle.routes.specs.Marked.{Marked}
 
 -- the marks of the objects and of the constraints, the shares by place and the rooms
 pub record State : Type 0 where

@@ -2,7 +2,7 @@
 use arrays::place_at;
 use limits::ENDS;
 use limits::OBJECTS;
-ghost use Rattle.routes.specs.Chains.{Named, Chained};
+ghost use Rattle.routes.specs.Chains.{NamedEnds, Chained};
 
 // One more than the last place of each object, and one more than the place before of the same object; 0 for none.
 pub struct Chains {
@@ -11,7 +11,7 @@ pub struct Chains {
 }
 
 pub fn chain(m: usize, ends: &[u16; ENDS]) -> Chains
-    requires { ⌜ Named m (now ends) ⌝ }
+    requires { ⌜ NamedEnds m (now ends) ⌝ }
     ensures { λ r. ⌜ Chained m (now (ends .entry)) (r .head) (r .next) ⌝ }
 {
     let mut head = [0u16; OBJECTS];

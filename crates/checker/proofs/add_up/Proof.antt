@@ -1,4 +1,4 @@
--- `counter::checker::add_up` meets its contract. The invariant: the constraints below e are added up. Assumes nothing.
+-- `checker::add_up` meets its contract. The invariant: the constraints below e are added up. Assumes nothing.
 use Prim.Native.Nat.{_-_}
 use Rattle.checker.proofs.AddingUp.{Tallying, none-added, all-added, a-low, first-fits, b-low, second-fits, one-added, not-fitting}
 use borrow.Author.Needs.{needs}

@@ -1,4 +1,4 @@
--- `counter::checker::equals` meets its contract. Assumes nothing.
+-- `checker::equals` meets its contract. Assumes nothing.
 use borrow.Author.Needs.{needs}
 use Rattle.checker.proofs.Claimed.{difference-fits, claimed-fits, equals-is}
 use Rattle.checker.proofs.equals.Statement.{statement}

@@ -1,4 +1,4 @@
--- `counter::checker::has_room` meets its contract. The invariant: the objects below v have room. Assumes nothing.
+-- `checker::has_room` meets its contract. The invariant: the objects below v have room. Assumes nothing.
 use mathlib.Core.Path.{subst₂}
 use Prim.Native.Nat.{_-_, _<_, _≤_}
 use native.Mathlib.Omega.{arith}

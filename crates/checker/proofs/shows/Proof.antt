@@ -1,4 +1,4 @@
--- `counter::checker::shows` meets its contract. Assumes nothing.
+-- `checker::shows` meets its contract. Assumes nothing.
 use borrow.Author.Tests.{not-true, not-false}
 use mir.Facts.{toZ-ofZ}
 use Rattle.checker.proofs.Deciding.{adding, ending, unfit, crowded, receiving, decided}

@@ -2,7 +2,7 @@
 use mathlib.Core.Path.{_≡_, refl}
 use Prim.Native.Nat.{ℕ, zero, suc}
 use lib.ListN.{getD, replicate, length-replicate}
-use Rattle.drawing.specs.Arrays.{ZeroFrom}
+use Rattle.drawing.specs.EntryArrays.{ZeroFrom}
 
 zero-at : (long i : ℕ) → _≡_ {A = ℕ} (getD (replicate long 0) i 0) 0
 zero-at zero i = refl

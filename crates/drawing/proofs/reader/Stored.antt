@@ -13,14 +13,14 @@ use Rattle.drawing.specs.Fault.{objectFault, constraintFault}
 use Rattle.drawing.specs.Format.{headSize, objectBodySize, constraintBodySize, bodyLength, object, constraint, recordAt}
 use Rattle.drawing.specs.Read.{unless, readFrom, read}
 use Rattle.drawing.specs.Tabulated.{tabulated}
-use Rattle.drawing.specs.Arrays.{Arrays, objectIn, constraintIn, drawingIn, ZeroFrom, Tidy}
+use Rattle.drawing.specs.EntryArrays.{EntryArrays, objectIn, constraintIn, drawingIn, ZeroFrom, Tidy}
 use Rattle.drawing.proofs.Faults.{object-sound, constraint-sound}
 use Rattle.drawing.proofs.Tabulated.{tabulated-more}
 use Rattle.drawing.proofs.Stores.{below-store, at-store, store}
 use Rattle.drawing.proofs.reader.Turn.{Stands, kindIn, leads, object-fault-in, constraint-fault-in}
 
 -- the arrays with object n, and with constraint m
-abbrev pub storeObject : Arrays → ℕ → Object → Arrays
+abbrev pub storeObject : EntryArrays → ℕ → Object → EntryArrays
 storeObject a n o = record {
   ends = a .ends;
   objectKinds = set (a .objectKinds) n (o .kind);
@@ -29,7 +29,7 @@ storeObject a n o = record {
   constraintStated = a .constraintStated;
 }
 
-abbrev pub storeConstraint : Arrays → ℕ → Constraint → Arrays
+abbrev pub storeConstraint : EntryArrays → ℕ → Constraint → EntryArrays
 storeConstraint a m c = record {
   ends = set (set (a .ends) (2 * m) (c .first)) (2 * m + 1) (c .second);
   objectKinds = a .objectKinds;
@@ -38,7 +38,7 @@ storeConstraint a m c = record {
   constraintStated = set (a .constraintStated) m (c .stated);
 }
 
-module _ (a : Arrays) (n m : ℕ) (t : Tidy n m a) where
+module _ (a : EntryArrays) (n m : ℕ) (t : Tidy n m a) where
   -- object n is the last one
   object-stored : (o : Object) → n < mostObjects → drawingIn (storeObject a n o) (n + 1) m ≡ withObject (drawingIn a n m) o
   unfolding drawingIn
@@ -113,7 +113,7 @@ module _ (a : Arrays) (n m : ℕ) (t : Tidy n m a) where
     }
 
 -- no fault: reading goes on, and stands where the next record starts
-goes-on : {s : List ℕ} {at n m : ℕ} {a : Arrays} (turns f p : ℕ) (d : Drawing) → read s ≡ unless f (readFrom turns s p d) → f ≡ 0
+goes-on : {s : List ℕ} {at n m : ℕ} {a : EntryArrays} (turns f p : ℕ) (d : Drawing) → read s ≡ unless f (readFrom turns s p d) → f ≡ 0
     → p ≡ at → d ≡ drawingIn a n m → at ≤ length s → length s < at + turns → Tidy n m a → Stands s at n m a
 goes-on {s} turns f p d e none here stored within enough tidy = record {
   within = within;
@@ -123,7 +123,7 @@ goes-on {s} turns f p d e none here stored within enough tidy = record {
   tidy = tidy;
 }
 
-module _ (s : List ℕ) (at n m : ℕ) (a : Arrays) (st : Stands s at n m a) where
+module _ (s : List ℕ) (at n m : ℕ) (a : EntryArrays) (st : Stands s at n m a) where
   pub behind-object : (o : Object) → object o ≡ recordAt s at → (f : ℕ) → f ≡ objectFault n m o → f ≡ 0
       → Stands s (at + (headSize + objectBodySize)) (n + 1) m (storeObject a n o)
   unfolding bodyLength pick

@@ -13,20 +13,20 @@ use Rattle.drawing.specs.Fault.{objectFault, constraintFault, objectFaul
 use Rattle.drawing.specs.Format.{headSize, bodyLength, Record, faulty, object, constraint, end, recordAt}
 use Rattle.drawing.specs.Read.{Reading, accepted, unless, behindFault, readOn, readFrom, read}
 use Rattle.drawing.specs.Tabulated.{tabulated}
-use Rattle.drawing.specs.Arrays.{Arrays, drawingIn, Tidy, Blank, ReadInto}
+use Rattle.drawing.specs.EntryArrays.{EntryArrays, drawingIn, Tidy, Blank, ReadInto}
 use Rattle.drawing.proofs.RecordAt.{RecordFacts, record-facts}
 use Rattle.drawing.proofs.ReadInto.{as-refused}
 use Rattle.drawing.proofs.DrawingIn.{objects-count, constraints-count, kind-is}
 
 -- reading stands at a position, with n objects and m constraints in the arrays
-pub record Stands (s : List ℕ) (at n m : ℕ) (a : Arrays) : Type 0 where
+pub record Stands (s : List ℕ) (at n m : ℕ) (a : EntryArrays) : Type 0 where
   pub within : at ≤ length s
   pub turns : ℕ
   pub enough : length s < at + turns
   pub so-far : read s ≡ readFrom turns s at (drawingIn a n m)
   pub tidy : Tidy n m a
 
-pub starts : (s : List ℕ) (a : Arrays) → Blank a → Stands s 0 0 0 a
+pub starts : (s : List ℕ) (a : EntryArrays) → Blank a → Stands s 0 0 0 a
 unfolding read drawingIn tabulated
 starts s a b = record { within = zero-le; turns = suc (length s); enough = omega arith; so-far = refl; tidy = b }
 
@@ -38,14 +38,14 @@ pub record Leads (s : List ℕ) (at : ℕ) (d : Drawing) (r : Record) : Type 0 w
   pub facts : RecordFacts s at r
 
 -- the kind of the object that an end names
-abbrev pub kindIn : Arrays → ℕ → ℕ
+abbrev pub kindIn : EntryArrays → ℕ → ℕ
 kindIn a i = getD (a .objectKinds) i 0
 
 -- where there is a fault, it does not matter what comes after
 same-refusal : (f : ℕ) (x y : Reading) → (f ≡ 0 → ⊥) → unless f x ≡ unless f y
 same-refusal f x y h = sym (as-refused f x h) ∙ as-refused f y h
 
-module _ (s : List ℕ) (at n m : ℕ) (a : Arrays) (st : Stands s at n m a) where
+module _ (s : List ℕ) (at n m : ℕ) (a : EntryArrays) (st : Stands s at n m a) where
   turn : (r : Record) → r ≡ recordAt s at → (k : ℕ) → length s < at + k → read s ≡ readFrom k s at (drawingIn a n m)
       → Leads s at (drawingIn a n m) r
   unfolding readFrom
@@ -102,6 +102,6 @@ module _ (s : List ℕ) (at n m : ℕ) (a : Arrays) (st : Stands s at n m a) whe
   }
 
 -- what `ended` answers
-pub as-ended : (s : List ℕ) (f n m : ℕ) (a : Arrays) (r : Counts) → r ≡ record { code = f; objects = n; constraints = m } → ReadInto s f n m a
+pub as-ended : (s : List ℕ) (f n m : ℕ) (a : EntryArrays) (r : Counts) → r ≡ record { code = f; objects = n; constraints = m } → ReadInto s f n m a
     → ReadInto s (r .code) (r .objects) (r .constraints) a
 as-ended s f n m a r e h = subst (λ (x : Counts). ReadInto s (x .code) (x .objects) (x .constraints) a) (sym e) h

@@ -5,7 +5,7 @@ use Prim.Native.Nat.{ℕ, _+_, _≤_, _<_}
 use native.Mathlib.Omega.{arith}
 use lib.ListN.{getD, set}
 use borrow.Author.Count.{below-more}
-use Rattle.drawing.specs.Arrays.{ZeroFrom}
+use Rattle.drawing.specs.EntryArrays.{ZeroFrom}
 use Rattle.drawing.specs.WeightArrays.{Filled}
 use Rattle.drawing.proofs.Stores.{below-store, at-store, store}
 

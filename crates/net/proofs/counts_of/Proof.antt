@@ -1,4 +1,4 @@
--- `counter::net::counts_of` meets its contract. Assumes nothing.
+-- `net::counts_of` meets its contract. Assumes nothing.
 use Rattle.net.proofs.Standing.{counts-for}
 use borrow.Author.Needs.{needs}
 use Rattle.net.proofs.counts_of.Statement.{statement}

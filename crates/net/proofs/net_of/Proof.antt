@@ -1,4 +1,4 @@
--- `counter::net::net_of` meets its contract. Assumes nothing.
+-- `net::net_of` meets its contract. Assumes nothing.
 use Rattle.net.proofs.Standing.{net-for}
 use borrow.Author.Needs.{needs}
 use Rattle.net.proofs.net_of.Statement.{statement}

@@ -8,9 +8,10 @@ use Rattle.density.specs.Sum.{counted}
 use Rattle.density.specs.Net.{Proper, Set, Side, first, second, holds}
 use Rattle.density.specs.Sheet as theory
 use Rattle.density.proofs.Tests.{and-left, and-right, and-both}
-use Rattle.arrays.specs.At.{at, Marked}
+use Rattle.arrays.specs.At.{at}
 use Rattle.routes.specs.State.{BothIn, load}
-use Rattle.arrays.specs.Arrays.{place, netIn, sharesIn, members, Fair}
+use Rattle.arrays.specs.Arrays.{place, netIn, sharesIn, Fair}
+use Rattle.routes.specs.Marked.{Marked, members}
 use Rattle.routes.proofs.Places.{by-place}
 use Rattle.routes.proofs.Sums.{sum-pairs}
 

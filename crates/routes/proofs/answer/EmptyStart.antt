@@ -9,14 +9,14 @@ use Rattle.density.proofs.Sums.{sum-zero, counted-le}
 use lib.Dec.{eqb}
 use Rattle.limits.specs.Limits.{mostObjects, mostConstraints, mostEnds}
 use Rattle.arrays.specs.At.{at}
-use Rattle.routes.specs.Chains.{Chained, Named}
+use Rattle.routes.specs.Chains.{Chained, NamedEnds}
 use Rattle.routes.specs.State.{State, state, load}
 use Rattle.routes.specs.Settle.{Settling, Settled}
 use Rattle.arrays.specs.Arrays.{Fair}
 use Rattle.routes.specs.Answer.{Spread}
 use Rattle.routes.proofs.Places.{length-zeros, at-zeros}
 
-pub fair-named : {n m : ℕ} {ends weights takes : List ℕ} → Fair n m ends weights takes → Named m ends
+pub fair-named : {n m : ℕ} {ends weights takes : List ℕ} → Fair n m ends weights takes → NamedEnds m ends
 fair-named fair = record {
   few = fair .few-constraints;
   named = λ i b. omega (arith, fair .named i b, fair .few-objects);

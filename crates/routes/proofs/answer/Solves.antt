@@ -16,11 +16,12 @@ use Rattle.density.specs.Top.{AnswerSet}
 use Rattle.density.proofs.Integers.{eq-of-cross}
 use Rattle.density.proofs.Shares.{claim-is, least-closed-answers}
 use Rattle.limits.specs.Limits.{mostObjects, mostWeight}
-use Rattle.arrays.specs.At.{at, Marked}
+use Rattle.arrays.specs.At.{at}
 use Rattle.routes.specs.State.{State, state, BothIn, bothShares, load}
 use Rattle.routes.specs.Settle.{Settling, Settled}
 use Rattle.routes.specs.Release.{Releasing, Released}
-use Rattle.arrays.specs.Arrays.{place, netIn, sharesIn, members}
+use Rattle.arrays.specs.Arrays.{place, netIn, sharesIn}
+use Rattle.routes.specs.Marked.{Marked, members}
 use Rattle.routes.specs.Solved.{Solved}
 use Rattle.routes.specs.Answer.{Solving, EachWithin, Remainder}
 use Rattle.routes.proofs.Cases.{same-or-not}

@@ -7,7 +7,7 @@ use native.Mathlib.Omega.{arith}
 use lib.ListN.{length, set, length-set, replicate}
 use Rattle.limits.specs.Limits.{mostObjects, mostEnds}
 use Rattle.arrays.specs.At.{at}
-use Rattle.routes.specs.Chains.{Last, Named, Chained}
+use Rattle.routes.specs.Chains.{Last, NamedEnds, Chained}
 use Rattle.routes.proofs.Cases.{same-or-not}
 use Rattle.routes.proofs.Places.{at-set-here, at-set-off, length-zeros, at-zeros}
 
@@ -29,7 +29,7 @@ chain-start m ends = record {
   nexts = λ k b. absurd (omega arith);
 }
 
-pub chain-turn : {m : ℕ} {ends head next : List ℕ} {i v : ℕ} → Named m ends → Chaining m ends head next i → i < 2 * m → v ≡ at ends i
+pub chain-turn : {m : ℕ} {ends head next : List ℕ} {i v : ℕ} → NamedEnds m ends → Chaining m ends head next i → i < 2 * m → v ≡ at ends i
     → Chaining m ends (set head v (i + 1)) (set next i (at head v)) (i + 1)
 chain-turn {m} {ends} {head} {next} {i} {v} named h b is =
     let v-small : v < mostObjects = omega (arith, named .named i b) in
@@ -67,7 +67,7 @@ chain-turn {m} {ends} {head} {next} {i} {v} named h b is =
     back : i + 1 - 1 ≡ i
     back = omega arith
 
-pub chain-end : {m : ℕ} {ends head next : List ℕ} {i : ℕ} → Named m ends → Chaining m ends head next i → 2 * m ≤ i → Chained m ends head next
+pub chain-end : {m : ℕ} {ends head next : List ℕ} {i : ℕ} → NamedEnds m ends → Chaining m ends head next i → 2 * m ≤ i → Chained m ends head next
 chain-end {m} {ends} {head} {next} {i} named h b =
     let e : i ≡ 2 * m = omega (arith, h .within) in
     record {

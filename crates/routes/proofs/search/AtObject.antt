@@ -8,7 +8,8 @@ use lib.ListN.{length-set}
 use Rattle.routes.specs.declared.search.Marks.{Marks}
 use Rattle.routes.specs.declared.search.Route.{Route}
 use Rattle.limits.specs.Limits.{mostObjects, mostEnds}
-use Rattle.arrays.specs.At.{at, Marked, Clear}
+use Rattle.arrays.specs.At.{at}
+use Rattle.routes.specs.Marked.{Marked, Clear}
 use Rattle.routes.specs.State.{State, state, Sized}
 use Rattle.routes.specs.Search.{routeOf, ReadyObject, FromObject, UsingRoom, UsedRoom}
 use Rattle.routes.proofs.Marking.{grown-same}

@@ -6,7 +6,8 @@ use Prim.Native.Nat.{ℕ, _+_, _*_, _/_, _<_, _≤_}
 use native.Mathlib.Omega.{arith}
 use lib.ListN.{length}
 use Rattle.limits.specs.Limits.{mostObjects, mostConstraints}
-use Rattle.arrays.specs.At.{at, Marked}
+use Rattle.arrays.specs.At.{at}
+use Rattle.routes.specs.Marked.{Marked}
 use Rattle.routes.specs.State.{State, Grown, BothIn, unmarked}
 use Rattle.routes.specs.Search.{ReadyObject, ReadyConstraint, NoRoute, Moved, FromObject, FromConstraint}
 use Rattle.routes.proofs.Places.{by-place}

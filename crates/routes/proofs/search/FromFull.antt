@@ -8,7 +8,8 @@ use native.Mathlib.Omega.{arith}
 use lib.ListN.{length, length-set}
 use lib.Dec.{T}
 use Rattle.limits.specs.Limits.{mostObjects, mostConstraints, mostEnds}
-use Rattle.arrays.specs.At.{at, Marked, Clear}
+use Rattle.arrays.specs.At.{at}
+use Rattle.routes.specs.Marked.{Marked, Clear}
 use Rattle.routes.specs.Chains.{Chained}
 use Rattle.routes.specs.State.{State, state, Sized, Unmoved, Grown, BothIn, Bounded, unmarked}
 use Rattle.routes.specs.Search.{ReadyObject, ReadyConstraint, NoRoute, Moved, FromObject, FromConstraint, Shifting, lowered, shifted}

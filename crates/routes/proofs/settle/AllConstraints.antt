@@ -4,7 +4,7 @@ use mathlib.Core.Logic.{⊎-elim}
 use mathlib.Core.List.{List}
 use Prim.Native.Nat.{ℕ, _+_, _<_, _≤_}
 use native.Mathlib.Omega.{arith}
-use Rattle.arrays.specs.At.{Clear}
+use Rattle.routes.specs.Marked.{Clear}
 use Rattle.routes.specs.State.{State}
 use Rattle.routes.specs.Settle.{Kept, Done, Onward, Settling, HandingOut, HandedOut, Settled, WithinWeight}
 use Rattle.routes.proofs.Cases.{same-or-not}

@@ -6,7 +6,8 @@ use mathlib.Core.Bool.{Bool, false}
 use Prim.Native.Nat.{ℕ, _-_, _*_, _/_, _<_, _≤_}
 use native.Mathlib.Nat.{eq-zero-or-pos}
 use native.Mathlib.Omega.{arith}
-use Rattle.arrays.specs.At.{at, Marked, Clear}
+use Rattle.arrays.specs.At.{at}
+use Rattle.routes.specs.Marked.{Marked, Clear}
 use Rattle.routes.specs.State.{State, state, Sized, Grown, BothIn, bothShares}
 use Rattle.routes.specs.Search.{NoRoute, Moved, FromConstraint}
 use Rattle.routes.specs.Settle.{Kept, Onward}

@@ -4,7 +4,8 @@ use mathlib.Core.List.{List}
 use mathlib.Core.Bool.{Bool, true, false}
 use Prim.Native.Nat.{ℕ, _-_, _<_, _≤_}
 use native.Mathlib.Omega.{arith}
-use Rattle.arrays.specs.At.{at, Clear}
+use Rattle.arrays.specs.At.{at}
+use Rattle.routes.specs.Marked.{Clear}
 use Rattle.routes.specs.State.{State, bothShares}
 use Rattle.routes.specs.Search.{ReadyConstraint, FromConstraint}
 use Rattle.routes.specs.Settle.{Kept, Onward, Settling, HandingOut, HandedOut, WithinWeight}

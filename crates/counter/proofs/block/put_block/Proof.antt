@@ -4,7 +4,7 @@ use mathlib.Core.List.{_++_}
 use Prim.Native.Nat.{ℕ}
 use native.Mathlib.Omega.{arith}
 use Rattle.limits.specs.Limits.{mostObjects}
-use Rattle.arrays.specs.Arrays.{members}
+use Rattle.routes.specs.Marked.{members}
 use Rattle.counter.specs.Outcome.{over}
 use Rattle.counter.specs.Block.{two, setBytes, block}
 use Rattle.counter.proofs.block.Writing.{block-over}

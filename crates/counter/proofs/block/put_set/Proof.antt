@@ -8,7 +8,7 @@ use lib.Dec.{lit≤}
 use lib.ListN.{length, set, length-set}
 use Rattle.limits.specs.Limits.{mostObjects}
 use Rattle.drawing.specs.Tabulated.{tabulated}
-use Rattle.arrays.specs.Arrays.{members}
+use Rattle.routes.specs.Marked.{members}
 use Rattle.counter.specs.Outcome.{over}
 use Rattle.counter.specs.Block.{setSize, setByte, setBytes}
 use Rattle.counter.proofs.block.Writing.{tabulated-over}

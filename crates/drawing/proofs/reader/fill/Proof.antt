@@ -3,7 +3,7 @@
 use Prim.Native.Nat.{_-_}
 use mathlib.Core.Path.{sym, ap, _∙_}
 use Rattle.drawing.specs.Found.{meant}
-use Rattle.drawing.specs.Arrays.{arrays}
+use Rattle.drawing.specs.EntryArrays.{entryArrays}
 use native.Mathlib.Omega.{arith}
 use borrow.Author.Needs.{needs}
 use lib.ListN.{length}
@@ -15,7 +15,7 @@ use Rattle.drawing.proofs.reader.fill.Tie as tie
 
 abbrev Inv-loop : tie.InvT-loop
 Inv-loop s ends₀ object-kinds₀ object-stated₀ constraint-kinds₀ constraint-stated₀ at₀ n₀ m₀ ends object-kinds object-stated constraint-kinds constraint-stated at n m =
-    Stands s at n m (arrays ends object-kinds object-stated constraint-kinds constraint-stated)
+    Stands s at n m (entryArrays ends object-kinds object-stated constraint-kinds constraint-stated)
 
 abbrev μ-loop : tie.MeasureT-loop
 μ-loop s ends₀ object-kinds₀ object-stated₀ constraint-kinds₀ constraint-stated₀ at₀ n₀ m₀ ends object-kinds object-stated constraint-kinds constraint-stated at n m =

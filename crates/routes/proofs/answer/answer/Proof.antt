@@ -1,4 +1,4 @@
--- `routes::answer::answer` meets its contract: the laws of Answered beside it, one after another. Assumes nothing.
+-- `routes::answer::answer` meets its contract: the laws beside it, one after another. Assumes nothing.
 use native.Mathlib.Omega.{arith}
 use borrow.Author.Needs.{needs}
 use Rattle.routes.specs.State.{State, state}

@@ -11,15 +11,15 @@ use Rattle.drawing.specs.Tabulated.{tabulated}
 use Rattle.limits.specs.Limits.{mostObjects, mostConstraints, mostEnds}
 use Rattle.drawing.specs.Read.{accepted, unless, read}
 
-pub record Arrays : Type 0 where
+pub record EntryArrays : Type 0 where
   pub ends : List ℕ
   pub objectKinds : List ℕ
   pub objectStated : List ℕ
   pub constraintKinds : List ℕ
   pub constraintStated : List ℕ
 
-abbrev pub arrays : List ℕ → List ℕ → List ℕ → List ℕ → List ℕ → Arrays
-arrays ends ok os ck cs = record {
+abbrev pub entryArrays : List ℕ → List ℕ → List ℕ → List ℕ → List ℕ → EntryArrays
+entryArrays ends ok os ck cs = record {
   ends = ends;
   objectKinds = ok;
   objectStated = os;
@@ -27,14 +27,14 @@ arrays ends ok os ck cs = record {
   constraintStated = cs;
 }
 
-abbrev pub arraysOf : Entries → Arrays
-arraysOf r = arrays (r .ends) (r .«object_kinds») (r .«object_stated») (r .«constraint_kinds») (r .«constraint_stated»)
+abbrev pub arraysOf : Entries → EntryArrays
+arraysOf r = entryArrays (r .ends) (r .«object_kinds») (r .«object_stated») (r .«constraint_kinds») (r .«constraint_stated»)
 
 -- object i and constraint e of the arrays: constraint e has its ends at 2e and 2e + 1
-abbrev pub objectIn : Arrays → ℕ → Object
+abbrev pub objectIn : EntryArrays → ℕ → Object
 objectIn a i = record { kind = getD (a .objectKinds) i 0; stated = getD (a .objectStated) i 0 }
 
-abbrev pub constraintIn : Arrays → ℕ → Constraint
+abbrev pub constraintIn : EntryArrays → ℕ → Constraint
 constraintIn a e = record {
   first = getD (a .ends) (2 * e) 0;
   second = getD (a .ends) (2 * e + 1) 0;
@@ -43,7 +43,7 @@ constraintIn a e = record {
 }
 
 -- the drawing of n objects and m constraints in the arrays
-unfoldable pub drawingIn : Arrays → ℕ → ℕ → Drawing
+unfoldable pub drawingIn : EntryArrays → ℕ → ℕ → Drawing
 drawingIn a n m = record { objects = tabulated n (objectIn a); constraints = tabulated m (constraintIn a) }
 
 -- an array of a length that is zero from index k on
@@ -52,7 +52,7 @@ pub record ZeroFrom (long k : ℕ) (l : List ℕ) : Type 0 where
   pub zeros : (i : ℕ) → k ≤ i → getD l i 0 ≡ 0
 
 -- the counts are within the limits, and the arrays are zero past them
-pub record Tidy (n m : ℕ) (a : Arrays) : Type 0 where
+pub record Tidy (n m : ℕ) (a : EntryArrays) : Type 0 where
   pub few-objects : n ≤ mostObjects
   pub few-constraints : m ≤ mostConstraints
   pub ends-past : ZeroFrom mostEnds (2 * m) (a .ends)
@@ -62,11 +62,11 @@ pub record Tidy (n m : ℕ) (a : Arrays) : Type 0 where
   pub constraint-stated-past : ZeroFrom mostConstraints m (a .constraintStated)
 
 -- all zero
-abbrev pub Blank : Arrays → Type 0
+abbrev pub Blank : EntryArrays → Type 0
 Blank a = Tidy 0 0 a
 
 -- the bytes read: refused with the code, or, at code 0, accepted with the drawing in the arrays
-pub record ReadInto (s : List ℕ) (code n m : ℕ) (a : Arrays) : Type 0 where
+pub record ReadInto (s : List ℕ) (code n m : ℕ) (a : EntryArrays) : Type 0 where
   pub reading : read s ≡ unless code (accepted (drawingIn a n m))
   pub tidy : Tidy n m a
 
