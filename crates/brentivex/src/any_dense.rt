@@ -5,7 +5,7 @@ use counter::count::lowest_above;
 use counter::fault::range_fault;
 use net::net_of;
 ghost use lib.ListN.{length};
-ghost use Rattle.drawing.specs.Read.{read};
+ghost use Rattle.records.specs.Read.{read};
 ghost use Rattle.counter.specs.Outcome.{Answers};
 ghost use Rattle.counter.specs.Question.{anyDense};
 

@@ -3,7 +3,7 @@ use checker::shows;
 use counter::fault::number_fault;
 use counter::sheet::ROW;
 use net::net_of;
-ghost use Rattle.drawing.specs.Read.{read};
+ghost use Rattle.records.specs.Read.{read};
 ghost use Rattle.counter.specs.Outcome.{Replies};
 ghost use Rattle.counter.specs.Question.{check};
 

@@ -4,7 +4,7 @@ use counter::block::put_numbers;
 use counter::fault::room_fault;
 use net::counts_of;
 ghost use lib.ListN.{length};
-ghost use Rattle.drawing.specs.Read.{read};
+ghost use Rattle.records.specs.Read.{read};
 ghost use Rattle.counter.specs.Outcome.{Answers};
 ghost use Rattle.counter.specs.Question.{lookOver};
 

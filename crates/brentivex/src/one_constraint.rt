@@ -6,7 +6,7 @@ use counter::count::one;
 use counter::fault::number_fault;
 use net::net_of;
 ghost use lib.ListN.{length};
-ghost use Rattle.drawing.specs.Read.{read};
+ghost use Rattle.records.specs.Read.{read};
 ghost use Rattle.counter.specs.Outcome.{Answers};
 ghost use Rattle.counter.specs.Question.{oneConstraint};
 

@@ -5,7 +5,7 @@ use counter::sheet::ROW;
 use counter::sheet::put_sheet;
 use net::net_of;
 ghost use lib.ListN.{length};
-ghost use Rattle.drawing.specs.Read.{read};
+ghost use Rattle.records.specs.Read.{read};
 ghost use Rattle.counter.specs.Outcome.{Answers};
 ghost use Rattle.counter.specs.Question.{sheetFor};
 

@@ -16,7 +16,7 @@ use Rattle.density.specs.Sheet.{Sheet, gives, gets}
 use Rattle.density.proofs.Sums.{sum-le, sum-most, counted-le}
 use Rattle.limits.specs.Limits.{mostObjects, mostConstraints, mostWeight}
 use Rattle.arrays.specs.At.{at}
-use Rattle.drawing.specs.Format.{twoAt}
+use Rattle.records.specs.Format.{twoAt}
 use Rattle.checker.specs.Sheet.{sheetIn}
 use Rattle.checker.specs.Checked.{Adding, AddedUp, Tallied, constraintsOf}
 

@@ -3,7 +3,7 @@ use Prim.Native.Nat.{ℕ, _+_, _*_}
 use mathlib.Core.List.{List}
 use Rattle.density.specs.Net.{first, second}
 use Rattle.density.specs.Sheet.{Sheet}
-use Rattle.drawing.specs.Format.{twoAt}
+use Rattle.records.specs.Format.{twoAt}
 
 -- the bytes that a sheet for m constraints takes
 abbrev pub sheetSize : ℕ → ℕ

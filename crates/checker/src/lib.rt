@@ -2,11 +2,11 @@
 use arrays::ends_of;
 use arrays::one_byte;
 use arrays::two_bytes;
-use drawing::format::two_at;
 use limits::CONSTRAINTS;
 use limits::ENDS;
 use limits::OBJECTS;
 use net::NetArrays;
+use records::format::two_at;
 ghost use mathlib.Core.Path.{_≡_};
 ghost use Prim.Native.Nat.{_+_, _*_, _<_, _≤_};
 ghost use lib.ListN.{set};

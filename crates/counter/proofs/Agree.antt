@@ -10,7 +10,7 @@ use lib.Signed.{clashℤ}
 use Rattle.density.specs.Top.{LowestAbove, NoneAt}
 use Rattle.density.proofs.OneAnswer.{answers-agree, lowest-one}
 use Rattle.drawing.specs.Entry.{Drawing}
-use Rattle.drawing.specs.Read.{Reading, refused, accepted}
+use Rattle.records.specs.Read.{Reading, refused, accepted}
 use Rattle.net.specs.Weighed.{weighed}
 use Rattle.counter.specs.Outcome.{Outcome, answered, Question, Unless, Fits, over, Answers, Replies, askedFault}
 use Rattle.counter.specs.Question.{lookOver, oneConstraint, anyDense, sheetFor, check, BlockOf, SheetOf}

@@ -7,10 +7,10 @@ use Prim.Native.Nat.{ℕ, suc, zero, _≤_}
 use native.Mathlib.Omega.{arith}
 use lib.IntN.{ℤ}
 use Rattle.drawing.specs.Entry.{Drawing}
-use Rattle.drawing.specs.Read.{Reading, refused, accepted, read}
+use Rattle.records.specs.Read.{Reading, refused, accepted, read}
 use Rattle.counter.specs.Outcome.{Outcome, says, Question, Unless, Fits, over, Answers, firstFault, askedFault}
 use Rattle.counter.specs.Question.{oneConstraint, anyDense, sheetFor, check, lookOver}
-use Rattle.drawing.proofs.Reading.{refused-number}
+use Rattle.records.proofs.Reading.{refused-number}
 
 -- where nothing is amiss, an answer has code 0, or code k and no bytes
 abbrev pub Besides : ℕ → Question → Type 0

@@ -13,7 +13,7 @@ use Rattle.density.specs.Top.{NoSetAbove, Reaches}
 use Rattle.density.proofs.Listing.{answer-carries, dense-both}
 use Rattle.density.proofs.OneAnswer.{answers-agree, no-set-none-dense}
 use Rattle.drawing.specs.Entry.{Drawing}
-use Rattle.drawing.specs.Read.{Reading, accepted, read}
+use Rattle.records.specs.Read.{Reading, accepted, read}
 use Rattle.net.specs.Weighed.{weighed, Within}
 use Rattle.counter.specs.Block.{blockSize, densityIn, setIn}
 use Rattle.counter.specs.Outcome.{Answers}

@@ -15,7 +15,7 @@ use Rattle.density.specs.Sheet.{claim}
 use Rattle.density.proofs.Shares.{sheet-bounds, sound-same, claim-same}
 use Rattle.density.proofs.OneAnswer.{tops-agree, none-no-set}
 use Rattle.drawing.specs.Entry.{Drawing}
-use Rattle.drawing.specs.Read.{accepted, read}
+use Rattle.records.specs.Read.{accepted, read}
 use Rattle.net.specs.Weighed.{weighed, Within}
 use Rattle.counter.specs.Block.{blockSize, numberIn, densityIn, setIn}
 use Rattle.checker.specs.Sheet.{sheetSize, sheetIn}

@@ -9,7 +9,7 @@ use native.Mathlib.Omega.{arith}
 use borrow.Author.Tests.{eq-eqb, ne-eqb}
 use Rattle.drawing.specs.Choice.{pick}
 use Rattle.drawing.specs.Entry.{Drawing}
-use Rattle.drawing.specs.Read.{Reading, refused, accepted}
+use Rattle.records.specs.Read.{Reading, refused, accepted}
 use Rattle.counter.specs.Fault.{callFault, FirstOf}
 use Rattle.counter.specs.Outcome.{Outcome, says, Question, askedFault, firstFault, Unless, Fits, over, Answers}
 use Rattle.net.specs.NetFor.{AcceptedAs, CountsFor}

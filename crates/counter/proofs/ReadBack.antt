@@ -17,7 +17,7 @@ use Rattle.density.proofs.Integers.{cross-of-eq, sub-up, sub-down}
 use Rattle.density.proofs.EverySet.{emptySet, every, every-set}
 use Rattle.density.proofs.EveryNumber.{below, below-gives, below-same}
 use Rattle.limits.specs.Limits.{mostObjects}
-use Rattle.drawing.specs.Format.{twoAt}
+use Rattle.records.specs.Format.{twoAt}
 use Rattle.drawing.proofs.Tabulated.{getD-tabulated, length-tabulated}
 use Rattle.counter.specs.Block.{two, complement, setByte, setBytes, setSize, block, signed, numberIn, densityIn, setIn, blockSize}
 use Rattle.density.specs.Top.{AnswerSet}

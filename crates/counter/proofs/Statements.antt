@@ -15,7 +15,7 @@ use Rattle.density.specs.Sheet.{Sound, claim}
 use Rattle.density.proofs.Shares.{sound-same, claim-same}
 use Rattle.density.proofs.OneAnswer.{answer-top}
 use Rattle.drawing.specs.Entry.{Drawing}
-use Rattle.drawing.specs.Read.{Reading}
+use Rattle.records.specs.Read.{Reading}
 use Rattle.routes.specs.declared.answer.Solution.{Solution}
 use Rattle.arrays.specs.Arrays.{sharesIn}
 use Rattle.routes.specs.Marked.{members}

@@ -10,7 +10,7 @@ use Rattle.density.specs.Sum.{sum, counted}
 use Rattle.density.specs.Net.{Set}
 use Rattle.limits.specs.Limits.{mostObjects}
 use Rattle.drawing.specs.Tabulated.{tabulated}
-use Rattle.drawing.specs.Format.{twoAt}
+use Rattle.records.specs.Format.{twoAt}
 
 -- "All numbers are little-endian": a number in two bytes
 abbrev pub two : ℕ → List ℕ

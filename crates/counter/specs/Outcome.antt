@@ -5,7 +5,7 @@ use mathlib.Core.List.{List, [], _++_}
 use Prim.Native.Nat.{ℕ, zero, suc}
 use lib.ListN.{length, drop}
 use Rattle.drawing.specs.Entry.{Drawing}
-use Rattle.drawing.specs.Read.{Reading, refused, accepted}
+use Rattle.records.specs.Read.{Reading, refused, accepted}
 
 pub record Outcome : Type 0 where
   pub code : ℕ

@@ -1,15 +1,13 @@
--- What the arrays of a drawing that was read hold. Assumes nothing.
+-- The entries of a drawing in arrays. Assumes nothing.
 use mathlib.Core.Path.{_≡_}
 use mathlib.Core.List.{List}
-use Prim.Native.Nat.{ℕ, _+_, _*_, _≤_, _<_}
+use Prim.Native.Nat.{ℕ, _+_, _*_, _≤_}
 use lib.ListN.{length, getD}
 use Rattle.drawing.specs.declared.Object.{Object}
 use Rattle.drawing.specs.declared.Constraint.{Constraint}
-use Rattle.drawing.specs.declared.Entries.{Entries}
 use Rattle.drawing.specs.Entry.{Drawing}
 use Rattle.drawing.specs.Tabulated.{tabulated}
 use Rattle.limits.specs.Limits.{mostObjects, mostConstraints, mostEnds}
-use Rattle.drawing.specs.Read.{accepted, unless, read}
 
 pub record EntryArrays : Type 0 where
   pub ends : List ℕ
@@ -26,9 +24,6 @@ entryArrays ends ok os ck cs = record {
   constraintKinds = ck;
   constraintStated = cs;
 }
-
-abbrev pub arraysOf : Entries → EntryArrays
-arraysOf r = entryArrays (r .ends) (r .«object_kinds») (r .«object_stated») (r .«constraint_kinds») (r .«constraint_stated»)
 
 -- object i and constraint e of the arrays: constraint e has its ends at 2e and 2e + 1
 abbrev pub objectIn : EntryArrays → ℕ → Object
@@ -64,14 +59,3 @@ pub record Tidy (n m : ℕ) (a : EntryArrays) : Type 0 where
 -- all zero
 abbrev pub Blank : EntryArrays → Type 0
 Blank a = Tidy 0 0 a
-
--- the bytes read: refused with the code, or, at code 0, accepted with the drawing in the arrays
-pub record ReadInto (s : List ℕ) (code n m : ℕ) (a : EntryArrays) : Type 0 where
-  pub reading : read s ≡ unless code (accepted (drawingIn a n m))
-  pub tidy : Tidy n m a
-
--- what the ends of an accepted drawing are: each names an object, and the two of a constraint are different
-pub record ProperEnds (n m : ℕ) (ends : List ℕ) : Type 0 where
-  pub first-is : (e : ℕ) → e < m → getD ends (2 * e) 0 < n
-  pub second-is : (e : ℕ) → e < m → getD ends (2 * e + 1) 0 < n
-  pub apart : (e : ℕ) → e < m → getD ends (2 * e) 0 ≡ getD ends (2 * e + 1) 0 → ⊥

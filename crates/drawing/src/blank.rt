@@ -1,4 +1,4 @@
-// EntryArrays of zeros, in which a drawing is read and weighed.
+// Arrays of zeros, in which a drawing is read and weighed.
 use limits::CONSTRAINTS;
 use limits::ENDS;
 use limits::OBJECTS;

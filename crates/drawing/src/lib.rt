@@ -1,21 +1,20 @@
-// The bytes of a drawing: reading them into entries, turning faulty ones away, and the weights in force.
+// A drawing as values: objects and constraints as read, their kinds, what is wrong with one, and the weights in force.
 pub mod blank;
 pub mod fault;
-pub mod format;
-pub mod reader;
 pub mod table;
 pub mod weight;
 
 use blank::no_constraints;
-use blank::no_ends;
 use blank::no_objects;
 use limits::CONSTRAINTS;
 use limits::ENDS;
 use limits::OBJECTS;
-use reader::fill;
 use weight::weigh_constraints;
 use weight::weigh_objects;
-ghost use Rattle.drawing.specs.EntryArrays.{ReadInto, Tidy, entryArrays, arraysOf};
+ghost use mathlib.Core.Path.{_≡_};
+ghost use lib.ListN.{length, getD};
+ghost use Rattle.limits.specs.Limits.{mostObjects};
+ghost use Rattle.drawing.specs.EntryArrays.{Tidy, entryArrays};
 ghost use Rattle.drawing.specs.WeightArrays.{WeightsIn};
 
 // An object as read.
@@ -24,7 +23,7 @@ pub struct Object {
     pub stated: u8,
 }
 
-// A constraint as read. The two bytes stand first, so that `Found` holds every byte where an object has one.
+// A constraint as read. The two bytes stand first, so that where either may stand, each has its bytes at the same place.
 pub struct Constraint {
     pub kind: u8,
     pub stated: u8,
@@ -32,59 +31,15 @@ pub struct Constraint {
     pub second: u16,
 }
 
-// What stands at a position of the bytes: a fault of the record's head or its cut body, or the record.
-pub enum Found {
-    Faulty(u32),
-    Object(Object),
-    Constraint(Constraint),
-    End,
-}
-
-// How reading ended: the number of the refusal, 0 if accepted, and the entries read so far.
-pub struct Counts {
-    pub code: u32,
-    pub objects: usize,
-    pub constraints: usize,
-}
-
-// A drawing that was read: the number of the refusal, 0 if accepted, and the entries. Constraint e has its ends at 2e and 2e + 1.
-pub struct Entries {
-    pub code: u32,
-    pub objects: usize,
-    pub constraints: usize,
-    pub ends: [u16; ENDS],
-    pub object_kinds: [u8; OBJECTS],
-    pub object_stated: [u8; OBJECTS],
-    pub constraint_kinds: [u8; CONSTRAINTS],
-    pub constraint_stated: [u8; CONSTRAINTS],
-}
-
-// Reads a drawing.
-pub fn read(bytes: &[u8]) -> Entries
-    ensures { λ r. ⌜ ReadInto (now (bytes .entry)) (r .code) (r .objects) (r .constraints) (arraysOf r) ⌝ }
+// The kind of the object that an end names, 0 where there is none.
+pub fn kind_of(kinds: &[u8; OBJECTS], end: u16) -> u8
+    requires { ⌜ length (now kinds) ≡ mostObjects ⌝ }
+    ensures { λ r. ⌜ r ≡ getD (now (kinds .entry)) end 0 ⌝ }
 {
-    let mut ends = no_ends();
-    let mut object_kinds = no_objects();
-    let mut object_stated = no_objects();
-    let mut constraint_kinds = no_constraints();
-    let mut constraint_stated = no_constraints();
-    let counts = fill(
-        bytes,
-        &mut ends,
-        &mut object_kinds,
-        &mut object_stated,
-        &mut constraint_kinds,
-        &mut constraint_stated,
-    );
-    Entries {
-        code: counts.code,
-        objects: counts.objects,
-        constraints: counts.constraints,
-        ends,
-        object_kinds,
-        object_stated,
-        constraint_kinds,
-        constraint_stated,
+    if (end as usize) < OBJECTS {
+        kinds[end as usize]
+    } else {
+        0
     }
 }
 

@@ -1,5 +1,5 @@
 // The weights in force: the stated weight in the place of the table weight.
-use crate::reader::kind_of;
+use crate::kind_of;
 use crate::table::object_table;
 use crate::table::table_weight;
 use limits::CONSTRAINTS;

@@ -10,12 +10,13 @@ use lib.ListN.{length}
 use Rattle.density.specs.Net.{Side, first, second}
 use Rattle.drawing.specs.Choice.{pick}
 use Rattle.drawing.specs.Entry.{Drawing, constraintAt, noConstraint}
-use Rattle.drawing.specs.Read.{read}
+use Rattle.records.specs.Read.{read}
 use Rattle.drawing.specs.Weight.{objectWeight, constraintWeight}
-use Rattle.drawing.specs.EntryArrays.{EntryArrays, constraintIn, drawingIn, Tidy, ReadInto, ProperEnds}
+use Rattle.drawing.specs.EntryArrays.{EntryArrays, constraintIn, drawingIn, Tidy}
+use Rattle.records.specs.ReadInto.{ReadInto, ProperEnds}
 use Rattle.drawing.specs.WeightArrays.{WeightsIn}
-use Rattle.drawing.proofs.ReadInto.{read-refused, read-accepted}
-use Rattle.drawing.proofs.ReadInto.{read-ends, read-object-weight, read-constraint-weight}
+use Rattle.records.proofs.ReadInto.{read-refused, read-accepted}
+use Rattle.records.proofs.ReadInto.{read-ends, read-object-weight, read-constraint-weight}
 use Rattle.drawing.proofs.Tabulated.{below-or-past, getD-past}
 use Rattle.drawing.proofs.WeightRange.{none-weighs-nothing}
 use Rattle.drawing.proofs.DrawingIn.{objects-count, constraints-count, constraint-is}

@@ -8,10 +8,10 @@ use Rattle.limits.specs.Limits.{mostWeight}
 use Rattle.density.specs.Net.{Side, first, second}
 use Rattle.drawing.specs.Choice.{pick}
 use Rattle.drawing.specs.Entry.{Drawing}
-use Rattle.drawing.specs.Read.{accepted, read}
+use Rattle.records.specs.Read.{accepted, read}
 use Rattle.drawing.specs.Sound.{SoundDrawing}
 use Rattle.drawing.specs.Weight.{objectWeight}
-use Rattle.drawing.proofs.Reading.{accepted-sound}
+use Rattle.records.proofs.Reading.{accepted-sound}
 use Rattle.drawing.proofs.WeightRange.{object-weight, constraint-weight}
 use Rattle.net.specs.Weighed.{endOf, weightOf, weighed, Within}
 

@@ -5,7 +5,7 @@ use lib.ListN.{length}
 use Rattle.limits.specs.Limits.{mostObjects, mostConstraints}
 use Rattle.density.specs.Net.{Net}
 use Rattle.drawing.specs.Entry.{Drawing}
-use Rattle.drawing.specs.Read.{Reading, refused, accepted}
+use Rattle.records.specs.Read.{Reading, refused, accepted}
 use Rattle.arrays.specs.At.{at}
 use Rattle.arrays.specs.Arrays.{netIn, Fair}
 use Rattle.net.specs.declared.NetArrays.{NetArrays}

@@ -1,14 +1,14 @@
 // The one door from a drawing's bytes to its net: read, or read and weighed.
-use drawing::Counts;
 use drawing::blank::no_constraints;
 use drawing::blank::no_ends;
 use drawing::blank::no_objects;
-use drawing::reader::fill;
 use drawing::weigh;
 use limits::CONSTRAINTS;
 use limits::ENDS;
 use limits::OBJECTS;
-ghost use Rattle.drawing.specs.Read.{read};
+use records::Counts;
+use records::reader::fill;
+ghost use Rattle.records.specs.Read.{read};
 ghost use Rattle.net.specs.NetFor.{CountsFor, NetFor};
 
 // What was read of a drawing: the number of its refusal, 0 if accepted, and its net. Constraint e has its ends at 2e and 2e + 1; the
@@ -26,7 +26,7 @@ pub struct NetArrays {
 pub fn counts_of(drawing: &[u8]) -> Counts
     ensures { λ r. ⌜ CountsFor (read (now (drawing .entry))) (r .code) (r .objects) (r .constraints) ⌝ }
 {
-    let entries = drawing::read(drawing);
+    let entries = records::read(drawing);
     Counts {
         code: entries.code,
         objects: entries.objects,

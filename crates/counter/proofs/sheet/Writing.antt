@@ -9,7 +9,7 @@ use lib.Seq.{getD-set-same, getD-set-other, getD-take, drop-set-lt, drop-drop, l
 use Rattle.density.specs.Net.{Side, first, second}
 use Rattle.arrays.specs.At.{at}
 use Rattle.arrays.specs.Arrays.{sharesIn}
-use Rattle.drawing.specs.Format.{twoAt}
+use Rattle.records.specs.Format.{twoAt}
 use Rattle.checker.specs.Sheet.{sheetSize, sheetIn}
 use Rattle.counter.specs.Written.{SheetWritten}
 

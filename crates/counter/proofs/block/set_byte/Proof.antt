@@ -1,7 +1,6 @@
 -- `set_byte` meets its contract. Assumes nothing.
 use native.Mathlib.Omega.{arith}
 use Rattle.routes.specs.Marked.{members}
-use Rattle.counter.specs.Block.{}
 use Rattle.counter.proofs.block.Writing.{byte-is}
 use borrow.Author.Needs.{needs}
 use Rattle.counter.proofs.block.set_byte.Statement.{statement}

@@ -1,0 +1,5 @@
+-- what other crates cite: a reading, and what the reader answers
+pub mod Reading
+pub mod ReadInto
+-- what only the proofs of this crate use
+mod RecordAt
