@@ -1,7 +1,7 @@
 // Check: whether a sheet shows a claim.
+use checker::ROW;
 use checker::shows;
 use counter::fault::number_fault;
-use counter::sheet::ROW;
 use net::net_of;
 ghost use Rattle.records.specs.Read.{read};
 ghost use Rattle.counter.specs.Outcome.{Replies};

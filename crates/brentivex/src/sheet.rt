@@ -1,7 +1,7 @@
 // Sheet: why no set that holds constraint c is denser than its top density.
+use checker::ROW;
 use counter::count::one;
 use counter::fault::number_fault;
-use counter::sheet::ROW;
 use counter::sheet::put_sheet;
 use net::net_of;
 ghost use lib.ListN.{length};

@@ -14,6 +14,11 @@ ghost use Rattle.limits.specs.Limits.{mostObjects};
 ghost use Rattle.arrays.specs.At.{at};
 ghost use Rattle.checker.specs.Checked.{Adding, Tallied, HasRoom, Ending, Bare, EndsWeigh, Equals, Checking, Checked};
 
+// The bytes of a sheet for each constraint, and for each share.
+pub const ROW: usize = 4;
+
+const SHARE: usize = 2;
+
 // What the constraints of a sheet come to: whether each one's two shares fit its weight, and if so the sum of the weights, the sum of the
 // shares, and what each object receives.
 pub struct Tally {
@@ -42,8 +47,8 @@ fn add_up(m: usize, ends: &[u16; ENDS], takes: &[u8; CONSTRAINTS], sheet: &[u8])
     let mut load = [0u16; OBJECTS];
     let mut e: usize = 0;
     while e < m {
-        let x = two_at(sheet, 4 * e);
-        let y = two_at(sheet, 4 * e + 2);
+        let x = two_at(sheet, ROW * e);
+        let y = two_at(sheet, ROW * e + SHARE);
         let both = two_bytes(x) + two_bytes(y);
         let weight = one_byte(takes[e]);
         if both > weight {

@@ -8,9 +8,6 @@ ghost use Rattle.limits.specs.Limits.{mostConstraints};
 ghost use Rattle.checker.specs.Sheet.{sheetSize};
 ghost use Rattle.counter.specs.Written.{SheetWritten};
 
-// The bytes of a sheet for each constraint.
-pub const ROW: usize = 4;
-
 // Writes the shares of m constraints, two bytes each: first end, second end.
 pub fn put_sheet(m: usize, solution: Solution, buffer: &mut [u8])
     requires { ⌜ (m ≤ mostConstraints) × (sheetSize m ≤ length (now buffer)) ⌝ }

@@ -7,13 +7,13 @@ use native.Mathlib.Omega.{arith}
 use lib.ListN.{length, set, length-set}
 use lib.Dec.{eqb}
 use Rattle.density.specs.Sum.{counted}
-use Rattle.density.proofs.Sums.{counted-le}
+use Rattle.density.proofs.Sums.{counted-le, sum-most}
 use Rattle.limits.specs.Limits.{mostObjects}
 use Rattle.arrays.specs.At.{at}
 use Rattle.routes.specs.Marked.{Marked, Clear}
 use Rattle.routes.specs.State.{State, state, Sized, Grown, clears, unmarked}
 use Rattle.routes.proofs.Cases.{same-or-not}
-use Rattle.routes.proofs.Sums.{counted-here, sum-at, sum-le-count}
+use Rattle.routes.proofs.Sums.{counted-here, sum-differ-at}
 use Rattle.routes.proofs.Places.{at-set-here, at-set-off}
 
 pub marked-here : (l : List ℕ) (x : ℕ) → x < length l → Marked (set l x 1) x
@@ -27,7 +27,7 @@ unfolding clears
 clears-marked k l x b c h =
     omega (
       arith,
-      sum-at k (λ y. counted (eqb (at (set l x 1) y) 0) 1) (λ y. counted (eqb (at l y) 0) 1) x b
+      sum-differ-at k (λ y. counted (eqb (at (set l x 1) y) 0) 1) (λ y. counted (eqb (at l y) 0) 1) x b
           (λ y n. ap (λ (z : ℕ). counted (eqb z 0) 1) (at-set-off l x 1 y n)),
       ap (λ (z : ℕ). counted (eqb z 0) 1) (at-set-here l x 1 x c refl),
       counted-here (at l x) 0 1 h,
@@ -35,7 +35,7 @@ clears-marked k l x b c h =
 
 clears-le : (k : ℕ) (l : List ℕ) → clears k l ≤ k
 unfolding clears
-clears-le k l = sum-le-count k (λ x. counted (eqb (at l x) 0) 1) (λ x b. counted-le (eqb (at l x) 0) 1)
+clears-le k l = omega (arith, sum-most k 1 (λ x. counted (eqb (at l x) 0) 1) (λ x b. counted-le (eqb (at l x) 0) 1))
 
 -- ---- a state with one mark more
 

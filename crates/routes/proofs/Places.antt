@@ -14,7 +14,7 @@ use Rattle.arrays.specs.At.{at}
 use Rattle.routes.specs.State.{bothShares, load}
 use Rattle.routes.specs.Search.{lowered, raised}
 use Rattle.routes.proofs.Cases.{same-or-not}
-use Rattle.routes.proofs.Sums.{counted-here, counted-off, sum-at}
+use Rattle.routes.proofs.Sums.{counted-here, counted-off, sum-differ-at}
 
 pub at-set-here : (l : List ℕ) (i y q : ℕ) → i < length l → q ≡ i → at (set l i y) q ≡ y
 at-set-here l i y q b e = subst (λ (j : ℕ). at (set l i y) j ≡ y) (sym e) (getD-set-same l i y 0 b)
@@ -44,7 +44,7 @@ load-set : (m : ℕ) (ends shares : List ℕ) (i y v : ℕ) → i < 2 * m → i 
     → load m ends (set shares i y) v + counted (eqb (at ends i) v) (at shares i) ≡ load m ends shares v + counted (eqb (at ends i) v) y
 unfolding load
 load-set m ends shares i y v l b =
-    sum-at (2 * m) (λ x. counted (eqb (at ends x) v) (at (set shares i y) x)) (λ x. counted (eqb (at ends x) v) (at shares x)) i l
+    sum-differ-at (2 * m) (λ x. counted (eqb (at ends x) v) (at (set shares i y) x)) (λ x. counted (eqb (at ends x) v) (at shares x)) i l
     (λ x n. ap (λ (z : ℕ). counted (eqb (at ends x) v) z) (at-set-off shares i y x n))
     ∙ ap (λ (z : ℕ). sum (2 * m) (λ x. counted (eqb (at ends x) v) (at shares x)) + counted (eqb (at ends i) v) z) (getD-set-same shares i y 0 b)
 

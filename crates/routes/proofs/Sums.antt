@@ -2,7 +2,7 @@
 use mathlib.Core.Path.{_≡_, refl, sym, ap, subst}
 use mathlib.Core.Logic.{_≢_, ⊎-elim}
 use mathlib.Core.Bool.{Bool}
-use Prim.Native.Nat.{ℕ, zero, suc, _+_, _*_, _<_, _≤_, zero-le}
+use Prim.Native.Nat.{ℕ, zero, suc, _+_, _*_, _<_}
 use native.Mathlib.Nat.{not-suc-le-zero}
 use native.Mathlib.Omega.{arith}
 use lib.Dec.{eqb}
@@ -18,21 +18,15 @@ pub counted-off : (i v y : ℕ) → i ≢ v → counted (eqb i v) y ≡ 0
 counted-off i v y n = ap (λ (b : Bool). counted b y) (ne-eqb i v n)
 
 -- two sums whose terms differ at i alone
-pub sum-at : (k : ℕ) (f g : ℕ → ℕ) (i : ℕ) → i < k → ((x : ℕ) → x ≢ i → f x ≡ g x) → sum k f + g i ≡ sum k g + f i
+pub sum-differ-at : (k : ℕ) (f g : ℕ → ℕ) (i : ℕ) → i < k → ((x : ℕ) → x ≢ i → f x ≡ g x) → sum k f + g i ≡ sum k g + f i
 unfolding sum
-sum-at zero f g i l h = absurd (not-suc-le-zero l)
-sum-at (suc k) f g i l h =
+sum-differ-at zero f g i l h = absurd (not-suc-le-zero l)
+sum-differ-at (suc k) f g i l h =
     ⊎-elim
     (λ e. subst (λ (j : ℕ). sum k f + f k + g j ≡ sum k g + g k + f j) (sym e)
     (omega (arith, sum-same k f g (λ x b. h x (λ q. absurd (omega arith))))))
-    (λ n. omega (arith, sum-at k f g i (omega arith) h, h k (λ q. n (sym q))))
+    (λ n. omega (arith, sum-differ-at k f g i (omega arith) h, h k (λ q. n (sym q))))
     (same-or-not i k)
-
--- k terms of at most 1
-pub sum-le-count : (k : ℕ) (f : ℕ → ℕ) → ((x : ℕ) → x < k → f x ≤ 1) → sum k f ≤ k
-unfolding sum
-sum-le-count zero f h = zero-le
-sum-le-count (suc k) f h = omega (arith, sum-le-count k f (λ x l. h x (omega arith)), h k (omega arith))
 
 -- the sum over the places is the sum over the constraints of both places
 pub sum-pairs : (m : ℕ) (f : ℕ → ℕ) → sum (2 * m) f ≡ sum m (λ e. f (2 * e) + f (2 * e + 1))
