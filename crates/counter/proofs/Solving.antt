@@ -2,7 +2,7 @@
 use mathlib.Core.List.{List}
 use Prim.Native.Nat.{ℕ, _<_}
 use Rattle.routes.specs.State.{State}
-use Rattle.routes.specs.Answer.{Spread, Solving}
+use Rattle.settling.specs.Answer.{Spread, Solving}
 use Rattle.net.specs.declared.NetArrays.{NetArrays}
 use Rattle.net.specs.NetFor.{Countable}
 

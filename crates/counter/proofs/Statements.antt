@@ -16,10 +16,10 @@ use Rattle.density.proofs.Shares.{sound-same, claim-same}
 use Rattle.density.proofs.OneAnswer.{answer-top}
 use Rattle.drawing.specs.Entry.{Drawing}
 use Rattle.records.specs.Read.{Reading}
-use Rattle.routes.specs.declared.answer.Solution.{Solution}
+use Rattle.settling.specs.declared.answer.Solution.{Solution}
 use Rattle.arrays.specs.Arrays.{sharesIn}
 use Rattle.routes.specs.Marked.{members}
-use Rattle.routes.specs.Solved.{Solved}
+use Rattle.settling.specs.Solved.{Solved}
 use Rattle.net.specs.declared.NetArrays.{NetArrays}
 use Rattle.counter.specs.declared.block.Block.{Block}
 use Rattle.counter.specs.declared.block.Finding.{Finding}

@@ -4,8 +4,8 @@ use mathlib.Core.Bool.{true, false}
 use Prim.Native.Nat.{ℕ, _<_}
 use lib.IntN.{ℤ}
 use Rattle.density.specs.Top.{NoneAt, LowestAbove}
-use Rattle.routes.specs.declared.answer.Solution.{Solution}
-use Rattle.routes.specs.Solved.{Solved}
+use Rattle.settling.specs.declared.answer.Solution.{Solution}
+use Rattle.settling.specs.Solved.{Solved}
 use Rattle.net.specs.declared.NetArrays.{NetArrays}
 use Rattle.counter.specs.declared.block.Block.{Block}
 use Rattle.counter.specs.declared.block.Finding.{Finding}

@@ -4,10 +4,10 @@ use crate::block::Finding;
 use crate::range::from_least;
 use crate::range::is_above;
 use net::NetArrays;
-use routes::answer::Solution;
-use routes::answer::answer;
-use routes::answer::base;
-use routes::answer::nothing;
+use settling::answer::Solution;
+use settling::answer::answer;
+use settling::answer::base;
+use settling::answer::nothing;
 ghost use mathlib.Core.Path.{_≡_};
 ghost use Rattle.counter.specs.Counting.{OneOf, SolvedIn, blockFrom, AllAt, Sought};
 

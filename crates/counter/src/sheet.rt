@@ -1,7 +1,7 @@
 // The writer of a sheet's bytes.
 use crate::block::put_two;
 use arrays::two_bytes;
-use routes::answer::Solution;
+use settling::answer::Solution;
 ghost use Prim.Native.Nat.{_≤_};
 ghost use lib.ListN.{length};
 ghost use Rattle.limits.specs.Limits.{mostConstraints};

@@ -8,7 +8,7 @@ use lib.Signed.{_≤ℤ_, _<ℤ_}
 use Rattle.density.specs.Net.{Net}
 use Rattle.density.specs.Top.{Top, NoneAt}
 use Rattle.density.proofs.OneAnswer.{NoneBelow, answer-top, lowest-so, none-up-to}
-use Rattle.routes.specs.declared.answer.Solution.{Solution}
+use Rattle.settling.specs.declared.answer.Solution.{Solution}
 use Rattle.routes.specs.Marked.{members}
 use Rattle.net.specs.declared.NetArrays.{NetArrays}
 use Rattle.counter.specs.declared.block.Block.{Block}
