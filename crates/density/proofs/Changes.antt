@@ -1,54 +1,30 @@
--- Each of the four changes gives two listings of one drawing, and so does every sequence of them; what a constraint becomes by a change
--- corresponds to it. Assumes nothing.
-use mathlib.Core.Path.{_≡_, refl, sym, _∙_, ap, ap₂, subst}
+-- A net renumbered and a net whose constraints are gathered are listings of one drawing, and what a constraint becomes corresponds to it.
+-- Assumes nothing.
+use mathlib.Core.Path.{_≡_, sym, _∙_, ap, ap₂}
 use mathlib.Core.Bool.{Bool, _&&_}
-use mathlib.Core.Logic.{_⊎_, inl, inr}
+use mathlib.Core.Logic.{inl, inr}
 use Prim.Native.Nat.{ℕ, _+_, _<_}
 use native.Mathlib.Omega.{arith}
-use lib.Dec.{T, eqb}
+use lib.Dec.{eqb}
 use Rattle.density.specs.Sum.{sum, counted}
 use Rattle.density.specs.Net.{Net, Proper, Side, first, second}
-use Rattle.density.specs.Listing.{goes, onPair, pairTakes, Listings, Corresponds}
-use Rattle.density.specs.Change.{SameObjects, Renumbered, Reordered, Exchanged, SameWay, OtherWay, Joined}
-use Rattle.density.specs.Change.{Change, renumbered, reordered, exchanged, joined, becomes, Changes, unchanged, made, undone}
-use Rattle.density.proofs.Tests.{and-both, eq→eqb, eqb-comm}
-use Rattle.density.proofs.Sums.{sum-same, sum-add, sum-swap, sum-one, sum-at, counted-sum, counted-comm}
-use Rattle.density.proofs.Matching.{matched-test}
-use Rattle.density.proofs.Listing.{listings-back, listings-then}
-
--- the constraints of b, one for one as those of d, take the same on a pair
-same-on : (d b : Net) (u v x y : ℕ) → b .constraints ≡ d .constraints
-    → ((e : ℕ) → e < d .constraints → onPair b x y e ≡ onPair d u v e) → pairTakes b x y ≡ pairTakes d u v
-unfolding pairTakes
-same-on d b u v x y k h = ap (λ (m : ℕ). sum m (onPair b x y)) k ∙ sum-same (d .constraints) (onPair b x y) (onPair d u v) h
-
--- the objects left as they are
-unmoved : (d b : Net) → SameObjects d b → ((u v : ℕ) → pairTakes b u v ≡ pairTakes d u v) → Listings d b
-unmoved d b o same =
-    record {
-      to = λ v. v;
-      from = λ v. v;
-      matched =
-          record {
-            to-below = λ v h. subst (λ (k : ℕ). v < k) (sym (o .as-many)) h;
-            from-below = λ v h. subst (λ (k : ℕ). v < k) (o .as-many) h;
-            from-to = λ v _. refl;
-            to-from = λ v _. refl;
-          };
-      same-weight = o .same-weight;
-      same-pairs = λ u v _ _. same u v;
-    }
+use Rattle.density.specs.Listing.{Matching, goes, Between, onPair, pairTakes, Listings, Corresponds}
+use Rattle.density.specs.Change.{Renumbered, Gathered}
+use Rattle.density.proofs.Tests.{eqb-comm}
+use Rattle.density.proofs.Sums.{sum-same, sum-add, sum-swap, sum-at, counted-sum, counted-comm}
+use Rattle.density.proofs.Matching.{matching-same, matched-test, sum-matched}
 
 -- ---- renumbering
 
-renumbered-listings : (d b : Net) → Proper d → Renumbered d b → Listings d b
-renumbered-listings d b ok r =
+unfoldable pub renumbered-listings : {d b : Net} → Proper d → Renumbered d b → Listings d b
+unfolding pairTakes
+renumbered-listings {d} {b} ok r =
     record {
       to = r .to;
       from = r .from;
       matched = r .matched;
       same-weight = r .same-weight;
-      same-pairs = λ u v hu hv. same-on d b u v (r .to u) (r .to v) (r .as-many) (each u v hu hv);
+      same-pairs = same;
     }
   where
     -- ends are matched with the same objects as before
@@ -68,116 +44,77 @@ renumbered-listings d b ok r =
     each u v hu hv e le =
         ap₂ _+_ (ap₂ counted (same-goes e u v le hu hv) (r .same-takes e le)) (ap₂ counted (same-goes e v u le hv hu) (r .same-takes e le))
 
--- ---- exchanging ends
+    same : (u v : ℕ) → u < d .objects → v < d .objects → pairTakes b (r .to u) (r .to v) ≡ pairTakes d u v
+    same u v hu hv =
+        ap (λ (m : ℕ). sum m (onPair b (r .to u) (r .to v))) (r .as-many)
+        ∙ sum-same (d .constraints) (onPair b (r .to u) (r .to v)) (onPair d u v) (each u v hu hv)
+
+pub renumbered-corresponds : {d b : Net} (ok : Proper d) (r : Renumbered d b) (e : ℕ) → e < d .constraints
+    → Corresponds (renumbered-listings ok r) e e
+unfolding renumbered-listings
+renumbered-corresponds ok r e le = inl (r .renamed first e le, r .renamed second e le)
+
+-- ---- gathering
 
 -- what a constraint with ends x, y and weight q takes on the pair u, v
 abbrev takesOn : ℕ → ℕ → ℕ → ℕ → ℕ → ℕ
 takesOn u v x y q = counted (eqb x u && eqb y v) q + counted (eqb x v && eqb y u) q
 
-takes-on-same : (u v : ℕ) {x y q x′ y′ q′ : ℕ} → x ≡ x′ → y ≡ y′ → q ≡ q′ → takesOn u v x y q ≡ takesOn u v x′ y′ q′
-takes-on-same u v p q r = λ i. takesOn u v (p i) (q i) (r i)
-
 takes-on-exchanged : (u v x y q : ℕ) → takesOn u v y x q ≡ takesOn u v x y q
 takes-on-exchanged u v x y q = omega (arith, counted-comm (eqb y u) (eqb x v) q, counted-comm (eqb y v) (eqb x u) q)
 
-exchanged-listings : (d b : Net) → Exchanged d b → Listings d b
-exchanged-listings d b r =
-    unmoved d b (r .objects) (λ u v. same-on d b u v u v (r .as-many) (λ e le. each u v e le (r .ends e le)))
-  where
-    each : (u v e : ℕ) → e < d .constraints → SameWay d b e ⊎ OtherWay d b e → onPair b u v e ≡ onPair d u v e
-    each u v e le (inl (p, q)) = takes-on-same u v p q (r .same-takes e le)
-    each u v e le (inr (p, q)) =
-        takes-on-same u v p q (r .same-takes e le) ∙ takes-on-exchanged u v (d .end first e) (d .end second e) (d .takes e)
+-- constraint f between x and y takes the same on a pair, whichever of them is its first end
+between-takes : (b : Net) (f u v q : ℕ) {x y : ℕ} → Between b f x y → takesOn u v (b .end first f) (b .end second f) q ≡ takesOn u v x y q
+between-takes b f u v q (inl (p, r)) = ap₂ (λ (x y : ℕ). takesOn u v x y q) p r
+between-takes b f u v q {x} {y} (inr (p, r)) = ap₂ (λ (x y : ℕ). takesOn u v x y q) p r ∙ takes-on-exchanged u v x y q
 
--- ---- joining and reordering
+-- where each constraint of b has one that goes into it, and weighs the same, it takes their sum
+pub one-into-each : (d b : Net) (to from : ℕ → ℕ) → Matching (d .constraints) (b .constraints) to from
+    → ((e : ℕ) → e < d .constraints → b .takes (to e) ≡ d .takes e)
+    → (f : ℕ) → f < b .constraints → b .takes f ≡ sum (d .constraints) (λ e. counted (eqb (to e) f) (d .takes e))
+one-into-each d b to from m same f lf =
+    sym (ap (b .takes) (m .to-from f lf))
+    ∙ same (from f) (m .from-below f lf)
+    ∙ sym (sum-matched (d .constraints) (b .constraints) to from m (d .takes) f lf)
 
--- sums over the constraints of b are sums over those of d that go into them
-joined-sum : (d b : Net) (r : Joined d b) (p : ℕ → Bool)
-    → sum (b .constraints) (λ f. counted (p f) (b .takes f)) ≡ sum (d .constraints) (λ e. counted (p (r .into e)) (d .takes e))
-joined-sum d b r p =
-    sum-same k (λ f. counted (p f) (b .takes f)) (λ f. sum m (λ e. counted (p f) (counted (eqb (r .into e) f) (d .takes e))))
-    (λ f lf. ap (counted (p f)) (r .summed f lf) ∙ counted-sum (p f) m (λ e. counted (eqb (r .into e) f) (d .takes e)))
-    ∙ sum-swap k m (λ f e. counted (p f) (counted (eqb (r .into e) f) (d .takes e)))
-    ∙ sum-same m (λ e. sum k (λ f. counted (p f) (counted (eqb (r .into e) f) (d .takes e)))) (λ e. counted (p (r .into e)) (d .takes e))
-    (λ e le. sum-at k (r .into e) (d .takes e) p (r .into-below e le))
-  where
-    k : ℕ
-    k = b .constraints
+module _ {d b : Net} (r : Gathered d b) where
+  -- sums over the constraints of b are sums over those of d that go into them
+  gathered-sum : (p : ℕ → Bool) → sum (b .constraints) (λ f. counted (p f) (b .takes f)) ≡ sum (d .constraints) (λ e. counted (p (r .into e)) (d .takes e))
+  gathered-sum p =
+      sum-same k (λ f. counted (p f) (b .takes f)) (λ f. sum m (λ e. counted (p f) (counted (eqb (r .into e) f) (d .takes e))))
+      (λ f lf. ap (counted (p f)) (r .summed f lf) ∙ counted-sum (p f) m (λ e. counted (eqb (r .into e) f) (d .takes e)))
+      ∙ sum-swap k m (λ f e. counted (p f) (counted (eqb (r .into e) f) (d .takes e)))
+      ∙ sum-same m (λ e. sum k (λ f. counted (p f) (counted (eqb (r .into e) f) (d .takes e)))) (λ e. counted (p (r .into e)) (d .takes e))
+      (λ e le. sum-at k (r .into e) (d .takes e) p (r .into-below e le))
+    where
+      k : ℕ
+      k = b .constraints
 
-    m : ℕ
-    m = d .constraints
+      m : ℕ
+      m = d .constraints
 
--- what the constraints from u to v take
-abbrev oneWay : Net → ℕ → ℕ → ℕ
-oneWay a u v = sum (a .constraints) (λ e. counted (goes a e u v) (a .takes e))
+  pub gathered-pairs : (u v : ℕ) → pairTakes b u v ≡ pairTakes d u v
+  unfolding pairTakes
+  gathered-pairs u v =
+      sum-add (b .constraints) (λ f. counted (goes b f u v) (b .takes f)) (λ f. counted (goes b f v u) (b .takes f))
+      ∙ ap₂ _+_ (gathered-sum (λ f. goes b f u v)) (gathered-sum (λ f. goes b f v u))
+      ∙ sym (sum-add m (λ e. counted (goes b (r .into e) u v) (d .takes e)) (λ e. counted (goes b (r .into e) v u) (d .takes e)))
+      ∙ sum-same m (λ e. takesOn u v (b .end first (r .into e)) (b .end second (r .into e)) (d .takes e)) (onPair d u v)
+      (λ e le. between-takes b (r .into e) u v (d .takes e) (r .same-pair e le))
+    where
+      m : ℕ
+      m = d .constraints
 
-both-ways : (a : Net) (u v : ℕ) → pairTakes a u v ≡ oneWay a u v + oneWay a v u
-unfolding pairTakes
-both-ways a u v = sum-add (a .constraints) (λ e. counted (goes a e u v) (a .takes e)) (λ e. counted (goes a e v u) (a .takes e))
+  unfoldable pub gathered-listings : Listings d b
+  gathered-listings =
+      record {
+        to = λ v. v;
+        from = λ v. v;
+        matched = matching-same (r .as-many);
+        same-weight = r .same-weight;
+        same-pairs = λ u v _ _. gathered-pairs u v;
+      }
 
-joined-listings : (d b : Net) → Joined d b → Listings d b
-joined-listings d b r = unmoved d b (r .objects) same
-  where
-    same-way : (u v : ℕ) → oneWay b u v ≡ oneWay d u v
-    same-way u v =
-        joined-sum d b r (λ f. goes b f u v)
-        ∙ sum-same (d .constraints) (λ e. counted (goes b (r .into e) u v) (d .takes e)) (λ e. counted (goes d e u v) (d .takes e))
-        (λ e le. ap₂ (λ (x y : ℕ). counted (eqb x u && eqb y v) (d .takes e)) (r .same-ends first e le) (r .same-ends second e le))
-
-    same : (u v : ℕ) → pairTakes b u v ≡ pairTakes d u v
-    same u v = both-ways b u v ∙ ap₂ _+_ (same-way u v) (same-way v u) ∙ sym (both-ways d u v)
-
--- a reordering joins each constraint with no other
-reordered-joined : (d b : Net) → Reordered d b → Joined d b
-reordered-joined d b r =
-    record {
-      objects = r .objects;
-      into = r .to;
-      into-below = r .matched .to-below;
-      same-ends = r .same-ends;
-      summed = summed;
-      one-at-least = λ f lf. (r .from f, r .matched .from-below f lf, r .matched .to-from f lf);
-    }
-  where
-    summed : (f : ℕ) → f < b .constraints → b .takes f ≡ sum (d .constraints) (λ e. counted (eqb (r .to e) f) (d .takes e))
-    summed f lf =
-        sym (ap (b .takes) (r .matched .to-from f lf))
-        ∙ r .same-takes (r .from f) (r .matched .from-below f lf)
-        ∙ sym (sum-one (d .constraints) (r .from f) (d .takes) (r .matched .from-below f lf))
-        ∙ sum-same (d .constraints) (λ e. counted (eqb (r .from f) e) (d .takes e)) (λ e. counted (eqb (r .to e) f) (d .takes e)) back
-      where
-        back : (e : ℕ) → e < d .constraints → counted (eqb (r .from f) e) (d .takes e) ≡ counted (eqb (r .to e) f) (d .takes e)
-        back e le =
-            ap (λ (t : Bool). counted t (d .takes e))
-            (sym (matched-test (d .constraints) (b .constraints) (r .to) (r .from) (r .matched) e f le lf))
-
--- ---- the four changes, and sequences of them
-
-pub change-listings : {d b : Net} → Proper d → Change d b → Listings d b
-change-listings {d} {b} ok (renumbered r) = renumbered-listings d b ok r
-change-listings {d} {b} ok (reordered r) = joined-listings d b (reordered-joined d b r)
-change-listings {d} {b} ok (exchanged r) = exchanged-listings d b r
-change-listings {d} {b} ok (joined r) = joined-listings d b r
-
-pub changes-listings : {d b : Net} → Changes d b → Listings d b
-changes-listings (unchanged {d = d}) = unmoved d d (record { as-many = refl; same-weight = λ v _. refl }) (λ u v. refl)
-changes-listings (made ok c rest) = listings-then (change-listings ok c) (changes-listings rest)
-changes-listings (undone ok c rest) = listings-then (listings-back (change-listings ok c)) (changes-listings rest)
-
-goes-so : (b : Net) (f : ℕ) {x y : ℕ} → b .end first f ≡ x → b .end second f ≡ y → T (goes b f x y)
-goes-so b f {x} {y} p q =
-    and-both (eqb (b .end first f) x) (eqb (b .end second f) y) (eq→eqb (b .end first f) x p) (eq→eqb (b .end second f) y q)
-
--- what a constraint becomes by a change corresponds to it
-pub becomes-corresponds : {d b : Net} (ok : Proper d) (c : Change d b) (e : ℕ) → e < d .constraints
-    → Corresponds (change-listings ok c) e (becomes c e)
-unfolding change-listings renumbered-listings joined-listings reordered-joined exchanged-listings unmoved
-becomes-corresponds {d} {b} ok (renumbered r) e le = inl (goes-so b e (r .renamed first e le) (r .renamed second e le))
-becomes-corresponds {d} {b} ok (reordered r) e le = inl (goes-so b (r .to e) (r .same-ends first e le) (r .same-ends second e le))
-becomes-corresponds {d} {b} ok (exchanged r) e le = way (r .ends e le)
-  where
-    way : SameWay d b e ⊎ OtherWay d b e
-        → T (goes b e (d .end first e) (d .end second e)) ⊎ T (goes b e (d .end second e) (d .end first e))
-    way (inl (p, q)) = inl (goes-so b e p q)
-    way (inr (p, q)) = inr (goes-so b e p q)
-becomes-corresponds {d} {b} ok (joined r) e le = inl (goes-so b (r .into e) (r .same-ends first e le) (r .same-ends second e le))
+  pub gathered-corresponds : (e : ℕ) → e < d .constraints → Corresponds gathered-listings e (r .into e)
+  unfolding gathered-listings
+  gathered-corresponds e le = r .same-pair e le

@@ -10,10 +10,10 @@ use lib.Dec.{T, eqb, eqb→eq, eqb-refl}
 use lib.IntN.{ℤ, subℕ}
 use lib.Signed.{_≤ℤ_, _<ℤ_}
 use Rattle.density.specs.Sum.{sum, counted}
-use Rattle.density.specs.Net.{Net, Proper, Set, Alike, first, second, holds}
+use Rattle.density.specs.Net.{Net, Proper, Set, Alike, Side, first, second, holds}
 use Rattle.density.specs.Density.{takenBy, free, density, HasDense}
 use Rattle.density.specs.Top.{Reaches, Bound, Top, AnswerSet}
-use Rattle.density.specs.Listing.{goes, onPair, pairTakes, Listings, Corresponds, image, Heavy}
+use Rattle.density.specs.Listing.{goes, Between, onPair, pairTakes, Listings, Corresponds, image, Heavy}
 use Rattle.density.proofs.Tests.{and-left, and-right, and-both, tested}
 use Rattle.density.proofs.Sums.{sum-same, term-le, some-term, counted-yes, counted-no, counted-some}
 use Rattle.density.proofs.Holding.{freeAt, holds-alike, density-alike}
@@ -22,7 +22,7 @@ use Rattle.density.proofs.Listing.Pairs.{inPair, pairs, pairs-same, tak
 
 -- ---- a listing read the other way, and one after another
 
-pub listings-back : {d b : Net} → Listings d b → Listings b d
+unfoldable pub listings-back : {d b : Net} → Listings d b → Listings b d
 listings-back {d} {b} l =
     record {
       to = l .from;
@@ -38,7 +38,7 @@ listings-back {d} {b} l =
     in-d : (v : ℕ) → v < b .objects → l .from v < d .objects
     in-d = l .matched .from-below
 
-pub listings-then : {d b a : Net} → Listings d b → Listings b a → Listings d a
+unfoldable pub listings-then : {d b a : Net} → Listings d b → Listings b a → Listings d a
 listings-then {d} {b} {a} l k =
     record {
       to = λ v. k .to (l .to v);
@@ -56,6 +56,36 @@ listings-then {d} {b} {a} l k =
   where
     in-b : (v : ℕ) → v < d .objects → l .to v < b .objects
     in-b = l .matched .to-below
+
+-- ---- constraints that correspond
+
+-- a constraint that goes from x to y has these ends
+goes-so : (b : Net) (f : ℕ) {x y : ℕ} → T (goes b f x y) → (b .end first f ≡ x) × (b .end second f ≡ y)
+goes-so b f {x} {y} t = (
+  eqb→eq (b .end first f) x (and-left (eqb (b .end first f) x) (eqb (b .end second f) y) t),
+  eqb→eq (b .end second f) y (and-right (eqb (b .end first f) x) (eqb (b .end second f) y) t),
+)
+
+pub corresponds-back : {d b : Net} → Proper d → (l : Listings d b) (e f : ℕ) → e < d .constraints → Corresponds l e f
+    → Corresponds (listings-back l) f e
+unfolding listings-back
+corresponds-back {d} {b} ok l e f le cor = go cor
+  where
+    -- an end of f that an end of e is matched with is matched back with it
+    from : (i j : Side) → b .end i f ≡ l .to (d .end j e) → d .end j e ≡ l .from (b .end i f)
+    from i j p = sym (ap (l .from) p ∙ l .matched .from-to (d .end j e) (ok .named j e le))
+
+    go : Corresponds l e f → Between d e (l .from (b .end first f)) (l .from (b .end second f))
+    go (inl (p, q)) = inl (from first first p, from second second q)
+    go (inr (p, q)) = inr (from second first q, from first second p)
+
+pub corresponds-then : {d b a : Net} (l : Listings d b) (k : Listings b a) (e f g : ℕ) → Corresponds l e f → Corresponds k f g
+    → Corresponds (listings-then l k) e g
+unfolding listings-then
+corresponds-then l k e f g (inl (p, q)) (inl (r, s)) = inl (r ∙ ap (k .to) p, s ∙ ap (k .to) q)
+corresponds-then l k e f g (inl (p, q)) (inr (r, s)) = inr (r ∙ ap (k .to) q, s ∙ ap (k .to) p)
+corresponds-then l k e f g (inr (p, q)) (inl (r, s)) = inr (r ∙ ap (k .to) p, s ∙ ap (k .to) q)
+corresponds-then l k e f g (inr (p, q)) (inr (r, s)) = inl (r ∙ ap (k .to) q, s ∙ ap (k .to) p)
 
 -- ---- density
 
@@ -106,17 +136,11 @@ module _ (d b : Net) (okd : Proper d) (okb : Proper b) (l : Listings d b) where
 
   -- ---- corresponding constraints
 
-  goes-holds : (S : Set) (f u v : ℕ) → T (goes b f u v) → holds b S f ≡ (S u && S v)
-  goes-holds S f u v t =
-      ap₂ (λ (x y : ℕ). S x && S y) (eqb→eq (b .end first f) u (and-left (eqb (b .end first f) u) (eqb (b .end second f) v) t))
-      (eqb→eq (b .end second f) v (and-right (eqb (b .end first f) u) (eqb (b .end second f) v) t))
-
   -- a set of b holds f exactly if, in d's numbers, it holds e
   holds-back : (S : Set) (e f : ℕ) → Corresponds l e f → holds b S f ≡ holds d (back S) e
-  holds-back S e f (inl t) = goes-holds S f (l .to (d .end first e)) (l .to (d .end second e)) t
-  holds-back S e f (inr t) =
-      goes-holds S f (l .to (d .end second e)) (l .to (d .end first e)) t
-      ∙ and-comm (S (l .to (d .end second e))) (S (l .to (d .end first e)))
+  holds-back S e f (inl (p, q)) = ap₂ (λ (x y : ℕ). S x && S y) p q
+  holds-back S e f (inr (p, q)) =
+      ap₂ (λ (x y : ℕ). S x && S y) p q ∙ and-comm (S (l .to (d .end second e))) (S (l .to (d .end first e)))
 
   module _ (e f : ℕ) (le : e < d .constraints) (lf : f < b .constraints) (cor : Corresponds l e f) (t : ℤ) where
     pub bound-carries : Bound d e t → Bound b f t
@@ -196,8 +220,8 @@ module _ (d b : Net) (okd : Proper d) (okb : Proper b) (l : Listings d b) where
       found (f, lf, takes) = (f, lf, way (tested (goes b f x y)))
         where
           way : T (goes b f x y) ⊎ (T (goes b f x y) → ⊥) → Corresponds l e f
-          way (inl t) = inl t
-          way (inr n) = inr (counted-some (goes b f y x) (b .takes f) (omega (arith, counted-no (goes b f x y) (b .takes f) n)))
+          way (inl t) = inl (goes-so b f t)
+          way (inr n) = inr (goes-so b f (counted-some (goes b f y x) (b .takes f) (omega (arith, counted-no (goes b f x y) (b .takes f) n))))
 
   -- where d has a set dense at K, so has b
   pub dense-carries : Heavy d → (K : ℤ) → HasDense d K → HasDense b K

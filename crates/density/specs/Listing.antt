@@ -1,17 +1,21 @@
 -- Two listings of one drawing. Demand 3: renumbering, reordering, exchanging ends, or joining several constraints on a pair into one with
--- the summed weight changes nothing but the names. What is one drawing is said by pairs of objects; the four changes are in Change.
+-- the summed weight changes nothing but the names. What is one drawing is said by pairs of objects; the changes are in Change and, over drawings, in `net/specs/Change`.
 -- Assumes nothing.
 use mathlib.Core.Path.{_≡_}
 use mathlib.Core.Bool.{Bool, _&&_}
 use mathlib.Core.Logic.{_⊎_}
 use Prim.Native.Nat.{ℕ, _+_, _<_}
-use lib.Dec.{T, eqb}
+use lib.Dec.{eqb}
 use Rattle.density.specs.Sum.{sum, counted}
 use Rattle.density.specs.Net.{Net, Set, first, second}
 
 -- constraint e goes from u to v: its first end is u, its second v
 abbrev pub goes : Net → ℕ → ℕ → ℕ → Bool
 goes d e u v = eqb (d .end first e) u && eqb (d .end second e) v
+
+-- constraint e is between u and v, whichever of the two is its first end
+abbrev pub Between : Net → ℕ → ℕ → ℕ → Type 0
+Between d e u v = ((d .end first e ≡ u) × (d .end second e ≡ v)) ⊎ ((d .end first e ≡ v) × (d .end second e ≡ u))
 
 -- what constraint e takes on the pair u, v, whichever of the two is its first end
 abbrev pub onPair : Net → ℕ → ℕ → ℕ → ℕ
@@ -37,11 +41,9 @@ pub record Listings (d b : Net) : Type 0 where
   pub same-weight : (v : ℕ) → v < d .objects → b .weight (to v) ≡ d .weight v
   pub same-pairs : (u v : ℕ) → u < d .objects → v < d .objects → pairTakes b (to u) (to v) ≡ pairTakes d u v
 
--- constraint e of d and constraint f of b correspond: f is on the pair that e's ends are matched with
+-- constraint e of d and constraint f of b correspond: f is between the objects that e's ends are matched with
 abbrev pub Corresponds : {d b : Net} → Listings d b → ℕ → ℕ → Type 0
-Corresponds {d} {b} l e f =
-    T (goes b f (l .to (d .end first e)) (l .to (d .end second e)))
-    ⊎ T (goes b f (l .to (d .end second e)) (l .to (d .end first e)))
+Corresponds {d} {b} l e f = Between b f (l .to (d .end first e)) (l .to (d .end second e))
 
 -- a set of d's objects, in b's numbers
 abbrev pub image : {d b : Net} → Listings d b → Set → Set

@@ -5,5 +5,7 @@ pub mod DrawingIn
 pub mod Faults
 pub mod Stores
 pub mod WeightRange
+pub mod WeightKept
 -- what only the proofs of this crate use
+mod EitherOrder
 mod WeightsIn

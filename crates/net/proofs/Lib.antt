@@ -1,4 +1,5 @@
 -- what other crates cite
 pub mod Within
+pub mod Changes
 -- laws of the door from bytes to a net
 mod Standing

@@ -1,2 +1,0 @@
--- the order of a constraint's ends
-mod EitherOrder
