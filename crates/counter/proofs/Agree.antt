@@ -1,7 +1,7 @@
 -- Two outcomes that both fit a question agree: the questions determine the code and every byte written. The sheet is the one
 -- exception: two outcomes agree in the code and in how many bytes are written. Assumes nothing.
 use mathlib.Core.Path.{_≡_, sym, _∙_, ap, subst}
-use mathlib.Core.Logic.{inl, inr}
+use mathlib.Core.Logic.{_⊎_, inl, inr}
 use mathlib.Core.List.{List}
 use Prim.Native.Nat.{ℕ, zero, suc, _*_}
 use lib.IntN.{ℤ}
@@ -12,8 +12,9 @@ use Rattle.density.proofs.OneAnswer.{answers-agree, lowest-one}
 use Rattle.drawing.specs.Entry.{Drawing}
 use Rattle.records.specs.Read.{Reading, refused, accepted}
 use Rattle.net.specs.Weighed.{weighed}
-use Rattle.counter.specs.Outcome.{Outcome, answered, Question, Unless, Fits, over, Answers, Replies, askedFault}
+use Rattle.counter.specs.Outcome.{Outcome, says, answered, Question, Unless, Fits, over, Answers, Replies, askedFault}
 use Rattle.counter.specs.Question.{lookOver, oneConstraint, anyDense, sheetFor, check, BlockOf, SheetOf}
+use Rattle.counter.proofs.Outcomes.{said-or-answered}
 use Rattle.counter.proofs.Blocks.{block-same}
 use lib.Seq.{drop-at}
 use Rattle.checker.specs.Sheet.{sheetSize}
@@ -88,21 +89,39 @@ sheet-determines-size c room d o p x y = size x ∙ sym (size y)
     size : {o : Outcome} → SheetOf d c o → sizeOf o ≡ record { code = 0; long = 4 * length (d .constraints) }
     size z = ap sizeOf (z .is) ∙ ap (λ (n : ℕ). record { code = 0; long = n }) (z .long)
 
--- every byte behind the sheet is as it was
-pub sheet-behind : (c : ℕ) {s : Reading} {r : ℕ} {before after : List ℕ} → Answers (sheetFor c (length before)) s r before after
-    → (d : Drawing) → s ≡ accepted d → drop (sheetSize (length (d .constraints))) after ≡ drop (sheetSize (length (d .constraints))) before
-sheet-behind c {before = before} {after = after} a d is =
-    go (askedFault (sheetFor c (length before)) d) (subst (λ (x : Reading). Fits (sheetFor c (length before)) x (a .outcome)) is (a .fits))
-  where
-    m : ℕ
-    m = length (d .constraints)
+-- how many constraints were read; none where the drawing was refused
+abbrev pub constraintsRead : Reading → ℕ
+constraintsRead (refused n) = 0
+constraintsRead (accepted d) = length (d .constraints)
 
-    go : (f : ℕ) → Unless f (a .outcome) (SheetOf d c (a .outcome)) → drop (sheetSize m) after ≡ drop (sheetSize m) before
-    go zero x =
-        ap (drop (sheetSize m)) (a .after-is ∙ ap (λ (o : Outcome). over (o .bytes) before) (x .is))
-        ∙ drop-at (x .bytes) (drop (length (x .bytes)) before) (sheetSize m) (x .long)
-        ∙ ap (λ (k : ℕ). drop k before) (x .long)
-    go (suc f) e = ap (drop (sheetSize m)) (a .after-is ∙ ap (λ (o : Outcome). over (o .bytes) before) e)
+module _ (c : ℕ) {x : Reading} {r : ℕ} {before after : List ℕ} (a : Answers (sheetFor c (length before)) x r before after) where
+  -- an outcome with a code alone leaves every byte as it was
+  left-alone : (n : ℕ) → a .outcome ≡ says n → after ≡ before
+  left-alone n e = a .after-is ∙ ap (λ (o : Outcome). over (o .bytes) before) e
+
+  cases : ((n : ℕ) × (a .outcome ≡ says n)) ⊎ ((d : Drawing) × (x ≡ accepted d) × SheetOf d c (a .outcome))
+  cases = said-or-answered (sheetFor c (length before)) x (a .outcome) (a .fits)
+
+  -- every byte behind the sheet is as it was
+  pub sheet-behind : drop (sheetSize (constraintsRead x)) after ≡ drop (sheetSize (constraintsRead x)) before
+  sheet-behind = go cases
+    where
+      go : ((n : ℕ) × (a .outcome ≡ says n)) ⊎ ((d : Drawing) × (x ≡ accepted d) × SheetOf d c (a .outcome))
+          → drop (sheetSize (constraintsRead x)) after ≡ drop (sheetSize (constraintsRead x)) before
+      go (inl (n, e)) = ap (drop (sheetSize (constraintsRead x))) (left-alone n e)
+      go (inr (d, is, y)) =
+          subst (λ (z : Reading). drop (sheetSize (constraintsRead z)) after ≡ drop (sheetSize (constraintsRead z)) before) (sym is)
+          (ap (drop (sheetSize (length (d .constraints)))) (a .after-is ∙ ap (λ (o : Outcome). over (o .bytes) before) (y .is))
+          ∙ drop-at (y .bytes) (drop (length (y .bytes)) before) (sheetSize (length (d .constraints))) (y .long)
+          ∙ ap (λ (k : ℕ). drop k before) (y .long))
+
+  -- and every byte is, where the code is not 0
+  pub sheet-unwritten : (r ≡ 0 → ⊥) → after ≡ before
+  sheet-unwritten bad = go cases
+    where
+      go : ((n : ℕ) × (a .outcome ≡ says n)) ⊎ ((d : Drawing) × (x ≡ accepted d) × SheetOf d c (a .outcome)) → after ≡ before
+      go (inl (n, e)) = left-alone n e
+      go (inr (d, is, y)) = absurd (bad (a .result-is ∙ ap (λ (o : Outcome). o .code) (y .is)))
 
 -- ---- two results of a call agree
 
@@ -121,13 +140,26 @@ any-dense-agrees k {before = before} = results-agree (anyDense k (length before)
 pub check-agrees : (c : ℕ) (b : List ℕ) (z : ℤ) {s : Reading} {r₁ r₂ : ℕ} → Replies (check c b z) s r₁ → Replies (check c b z) s r₂ → r₁ ≡ r₂
 check-agrees c b z x y = results-agree (check c b z) (check-determines c b z) x y .0
 
--- the sheet: the code, and every byte behind the sheet
-pub sheet-agrees : (c : ℕ) {s : Reading} {before after₁ after₂ : List ℕ} {r₁ r₂ : ℕ} → Answers (sheetFor c (length before)) s r₁ before after₁
-    → Answers (sheetFor c (length before)) s r₂ before after₂ → (d : Drawing) → s ≡ accepted d
-    → (r₁ ≡ r₂) × (drop (sheetSize (length (d .constraints))) after₁ ≡ drop (sheetSize (length (d .constraints))) after₂)
-sheet-agrees c {s} {before} x y d is = (
-  x .result-is
-      ∙ ap (λ (z : SizeOf). z .code) (outcomes-agree sizeOf (sheetFor c (length before)) (sheet-determines-size c (length before)) s (x .outcome) (y .outcome) (x .fits) (y .fits))
-      ∙ sym (y .result-is),
-  sheet-behind c x d is ∙ sym (sheet-behind c y d is),
-)
+-- the sheet: the code; where it is not 0, both whole buffers are as before; else every byte behind the sheet is
+pub record SheetsAgree (x : Reading) (r₁ r₂ : ℕ) (before after₁ after₂ : List ℕ) : Type 0 where
+  pub same-code : r₁ ≡ r₂
+  pub unwritten : (r₁ ≡ 0 → ⊥) → (after₁ ≡ before) × (after₂ ≡ before)
+  pub behind-first : drop (sheetSize (constraintsRead x)) after₁ ≡ drop (sheetSize (constraintsRead x)) before
+  pub behind-second : drop (sheetSize (constraintsRead x)) after₂ ≡ drop (sheetSize (constraintsRead x)) before
+
+pub sheet-agrees : (c : ℕ) {x : Reading} {r₁ r₂ : ℕ} {before after₁ after₂ : List ℕ} → Answers (sheetFor c (length before)) x r₁ before after₁
+    → Answers (sheetFor c (length before)) x r₂ before after₂ → SheetsAgree x r₁ r₂ before after₁ after₂
+sheet-agrees c {x} {r₁} {r₂} {before} a b =
+    record {
+      same-code = same;
+      unwritten = λ bad. (sheet-unwritten c a bad, sheet-unwritten c b (λ z. bad (same ∙ z)));
+      behind-first = sheet-behind c a;
+      behind-second = sheet-behind c b;
+    }
+  where
+    same : r₁ ≡ r₂
+    same =
+        a .result-is
+        ∙ ap (λ (z : SizeOf). z .code)
+        (outcomes-agree sizeOf (sheetFor c (length before)) (sheet-determines-size c (length before)) x (a .outcome) (b .outcome) (a .fits) (b .fits))
+        ∙ sym (b .result-is)

@@ -16,29 +16,36 @@ use Rattle.records.proofs.Reading.{refused-number}
 abbrev pub Besides : ℕ → Question → Type 0
 Besides k q = (d : Drawing) (o : Outcome) → q .answer d o → (o .code ≡ 0) ⊎ (o ≡ says k)
 
-module _ (q : Question) (s : List ℕ) {r : ℕ} {before after : List ℕ} (a : Answers q (read s) r before after) where
+-- a drawing is never refused with 0; so it is with what `read` makes of bytes
+abbrev pub Numbered : Reading → Type 0
+Numbered x = (n : ℕ) → x ≡ refused n → 1 ≤ n
+
+pub read-numbered : (s : List ℕ) → Numbered (read s)
+read-numbered s n is = refused-number s n is .least
+
+module _ (q : Question) {x : Reading} (numbered : Numbered x) {r : ℕ} {before after : List ℕ} (a : Answers q x r before after) where
   -- an outcome with a code alone: the result is the code, and every byte is as it was
   said : (n : ℕ) → a .outcome ≡ says n → (r ≡ n) × (after ≡ before)
   said n e = (a .result-is ∙ ap (λ (o : Outcome). o .code) e, a .after-is ∙ ap (λ (o : Outcome). over (o .bytes) before) e)
 
   -- what the call came to, by its first fault
   data Came : Type 0 where
-    refused-with : (n : ℕ) → firstFault q (read s) ≡ n → 1 ≤ n → a .outcome ≡ says n → Came
-    answered-for : (d : Drawing) → read s ≡ accepted d → askedFault q d ≡ 0 → q .answer d (a .outcome) → Came
+    refused-with : (n : ℕ) → firstFault q x ≡ n → 1 ≤ n → a .outcome ≡ says n → Came
+    answered-for : (d : Drawing) → x ≡ accepted d → askedFault q d ≡ 0 → q .answer d (a .outcome) → Came
 
   came : Came
-  came = go (read s) refl (a .fits)
+  came = go x refl (a .fits)
     where
-      asked : (d : Drawing) → read s ≡ accepted d → (f : ℕ) → askedFault q d ≡ f → Unless f (a .outcome) (q .answer d (a .outcome)) → Came
+      asked : (d : Drawing) → x ≡ accepted d → (f : ℕ) → askedFault q d ≡ f → Unless f (a .outcome) (q .answer d (a .outcome)) → Came
       asked d is zero e u = answered-for d is e u
       asked d is (suc f) e u = refused-with (suc f) (ap (firstFault q) is ∙ e) (omega arith) u
 
-      go : (x : Reading) → read s ≡ x → Fits q x (a .outcome) → Came
-      go (refused n) is u = refused-with n (ap (firstFault q) is) (refused-number s n is .least) u
+      go : (y : Reading) → x ≡ y → Fits q y (a .outcome) → Came
+      go (refused n) is u = refused-with n (ap (firstFault q) is) (numbered n is) u
       go (accepted d) is u = asked d is (askedFault q d) refl u
 
   -- a fault is given by its number, and the first decides; no lent byte is altered
-  pub first-fault-refused : (n : ℕ) → firstFault q (read s) ≡ suc n → (r ≡ suc n) × (after ≡ before)
+  pub first-fault-refused : (n : ℕ) → firstFault q x ≡ suc n → (r ≡ suc n) × (after ≡ before)
   first-fault-refused n e = go came
     where
       go : Came → (r ≡ suc n) × (after ≡ before)
@@ -47,7 +54,7 @@ module _ (q : Question) (s : List ℕ) {r : ℕ} {before after : List ℕ} (a : 
 
   module _ (k : ℕ) (besides : Besides k q) where
     -- a faultless call is never refused
-    pub faultless-never-refused : firstFault q (read s) ≡ 0 → (r ≡ 0) ⊎ (r ≡ k)
+    pub faultless-never-refused : firstFault q x ≡ 0 → (r ≡ 0) ⊎ (r ≡ k)
     faultless-never-refused e = go came
       where
         go : Came → (r ≡ 0) ⊎ (r ≡ k)

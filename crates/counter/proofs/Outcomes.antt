@@ -34,6 +34,16 @@ outcome-given : (q : Question) (d : Drawing) → askedFault q d ≡ 0 → (o : O
 outcome-given q d e o x before after w =
     record { outcome = o; fits = subst (λ (f : ℕ). Unless f o (q .answer d o)) (sym e) x; result-is = refl; after-is = w }
 
+-- an outcome that fits says a number, or answers the question about a drawing that was accepted
+pub said-or-answered : (q : Question) (x : Reading) (o : Outcome) → Fits q x o
+    → ((n : ℕ) × (o ≡ says n)) ⊎ ((d : Drawing) × (x ≡ accepted d) × q .answer d o)
+said-or-answered q (refused n) o e = inl (n, e)
+said-or-answered q (accepted d) o u = asked (askedFault q d) u
+  where
+    asked : (f : ℕ) → Unless f o (q .answer d o) → ((n : ℕ) × (o ≡ says n)) ⊎ ((b : Drawing) × (accepted d ≡ accepted b) × q .answer b o)
+    asked zero y = inr (d, refl, y)
+    asked (suc f) e = inl (suc f, e)
+
 -- ---- the same by what was read
 
 -- r is the first fault of the call

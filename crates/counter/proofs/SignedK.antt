@@ -18,15 +18,15 @@ use Rattle.counter.specs.Range.{leastK, mostK, inRange, FromLeast, Above
 
 too-low : (k : ℤ) → ltZ k leastK ≡ true → inRange k ≡ false
 too-low (pos a) e = absurd (false≢true e)
-too-low (negsuc a) e = ap (λ (b : Bool). b && true) (lt-leb a 63 (ltb-true 63 a e))
+too-low (negsuc a) e = ap (λ (b : Bool). b && true) (lt-leb a _ (ltb-true _ a e))
 
 too-high : (k : ℤ) → ltZ mostK k ≡ true → inRange k ≡ false
-too-high (pos a) e = lt-leb a 8191 (ltb-true 8191 a e)
+too-high (pos a) e = lt-leb a _ (ltb-true _ a e)
 too-high (negsuc a) e = absurd (false≢true e)
 
 within-range : (k : ℤ) → ltZ k leastK ≡ false → ltZ mostK k ≡ false → inRange k ≡ true
-within-range (pos a) low high = le-leb a 8191 (ltb-false 8191 a high)
-within-range (negsuc a) low high = ap (λ (b : Bool). b && true) (le-leb a 63 (ltb-false 63 a low))
+within-range (pos a) low high = le-leb a _ (ltb-false _ a high)
+within-range (negsuc a) low high = ap (λ (b : Bool). b && true) (le-leb a _ (ltb-false _ a low))
 
 -- K as the code reads it back from its bits
 module _ {k : ℤ} (fits : SFits w32 k) where
@@ -52,7 +52,7 @@ natural-k (pos a) e =
     record {
       natural = a + 64;
       sum = refl;
-      stands = record { is = sym (sub-up (a + 64) 64 a (omega arith)); most = omega (arith, leb-true a 8191 e) };
+      stands = record { is = sym (sub-up (a + 64) 64 a (omega arith)); most = omega (arith, leb-true a _ e) };
     }
 natural-k (negsuc a) e =
     record {

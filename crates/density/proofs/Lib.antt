@@ -9,9 +9,8 @@ pub mod OneAnswer
 pub mod Matching
 pub mod Listing
 pub mod Changes
--- the theorems that no other crate cites, for a reader
+pub mod Example
+-- a theorem that no other crate cites, for a reader
 pub mod Exists
-pub mod Table
-pub mod Errors
 -- what the proofs of this crate share
 mod Holding

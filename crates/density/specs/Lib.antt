@@ -7,6 +7,5 @@ pub mod Sheet
 pub mod Listing
 pub mod Change
 pub mod Example
-pub mod Correct
 -- what only states inner laws
 pub mod Closed

@@ -4,9 +4,7 @@ use mathlib.Core.Path.{_≡_, refl, sym, _∙_, ap, subst}
 use mathlib.Core.Logic.{_⊎_, inl, inr}
 use mathlib.Core.List.{List}
 use Prim.Native.Nat.{ℕ, _<_}
-use lib.Dec.{eqb}
 use lib.ListN.{length, getD}
-use Rattle.density.specs.Sum.{sum, counted}
 use Rattle.density.specs.Net.{Proper, Side, first, second}
 use Rattle.density.specs.Listing.{Matching, Listings, Corresponds}
 use Rattle.density.specs.Change as nets

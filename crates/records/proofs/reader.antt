@@ -1,4 +1,3 @@
--- one turn of reading, an entry stored behind the others, and the number of turns
+-- one turn of reading, and an entry stored behind the others
 mod Turn
 mod Stored
-mod EnoughTurns

@@ -11,7 +11,7 @@ ghost use Prim.Native.Nat.{_≤_, _<_};
 ghost use Rattle.limits.specs.Limits.{mostObjects};
 ghost use Rattle.net.specs.NetFor.{Countable};
 
-// 01: "6,000 bytes at most; that prefix gives every longer input its refusal".
+// 01: "6,000 bytes at most; that prefix gives every longer input its refusal": `longer-input-refused`, proofs/Input.antt.
 const INPUT: usize = 6000;
 
 // K = -3, as K + 64.

@@ -1,4 +1,4 @@
--- A test of a row of the table that the prover computes, and the law that a row that passes it is correct. Assumes nothing.
+-- A test of an example that the prover computes, and the law that an example that passes it is correct. Assumes nothing.
 use mathlib.Core.Path.{_≡_, sym, ap, ap₂, subst}
 use mathlib.Core.Bool.{Bool, not, _&&_}
 use Prim.Native.Nat.{ℕ, _≤_, _<_}
@@ -11,8 +11,7 @@ use lib.ListN.{length}
 use Rattle.density.specs.Net.{Net, Proper, Set, Alike, Side, first, second, holds, Inside}
 use Rattle.density.specs.Density.{density}
 use Rattle.density.specs.Top.{Reaches, Top, AnswerSet}
-use Rattle.density.specs.Example.{Example, Said, noneAt, denseAt, exampleNet, setOf}
-use Rattle.density.specs.Correct.{resultOf, saidAt, IsSo, Correct}
+use Rattle.density.specs.Example.{Example, Said, noneAt, denseAt, setOf, resultOf, saidAt, IsSo, Correct}
 use Rattle.density.proofs.Tests.{and-left, and-right, implies, implied, eq→eqb}
 use Rattle.density.proofs.Integers.{≤ℤ-antisym}
 use Rattle.density.proofs.Holding.{holds-alike, density-alike}
@@ -22,16 +21,16 @@ use Rattle.density.proofs.OneAnswer.{answer-top, tops-agree, NoneBelow,
 
 -- ---- proper
 
-abbrev apartTest : Net → ℕ → Bool
+abbrev pub apartTest : Net → ℕ → Bool
 apartTest d e = not (eqb (d .end first e) (d .end second e))
 
-abbrev endsTest : Net → ℕ → Bool
+abbrev pub endsTest : Net → ℕ → Bool
 endsTest d e = ltb (d .end first e) (d .objects) && (ltb (d .end second e) (d .objects) && apartTest d e)
 
-abbrev properTest : Net → Bool
+abbrev pub properTest : Net → Bool
 properTest d = below (d .constraints) (endsTest d)
 
-proper-passed : (d : Net) → T (properTest d) → Proper d
+pub proper-passed : (d : Net) → T (properTest d) → Proper d
 proper-passed d t = record { named = named; apart = apart }
   where
     a : ℕ → Bool
@@ -127,24 +126,24 @@ abbrev underTest : Example → ℤ → ℕ → Bool
 underTest x k m = below m (λ e. leZ (resultOf x e .density) k)
 
 abbrev saidTest : Example → Said → Bool
-saidTest x (noneAt k) = underTest x k (length (x .constraints))
-saidTest x (denseAt k c) = ltb c (length (x .constraints)) && (ltZ k (resultOf x c .density) && underTest x k c)
+saidTest x (noneAt k) = underTest x k (x .net .constraints)
+saidTest x (denseAt k c) = ltb c (x .net .constraints) && (ltZ k (resultOf x c .density) && underTest x k c)
 
-module _ (x : Example) (top : (c : ℕ) → c < length (x .constraints) → Top (exampleNet x) c (resultOf x c .density)) where
+module _ (x : Example) (top : (c : ℕ) → c < x .net .constraints → Top (x .net) c (resultOf x c .density)) where
   -- then so are their top densities
-  under-passed : (k : ℤ) (m : ℕ) → m ≤ length (x .constraints) → T (underTest x k m) → NoneBelow (exampleNet x) k m
+  under-passed : (k : ℤ) (m : ℕ) → m ≤ x .net .constraints → T (underTest x k m) → NoneBelow (x .net) k m
   under-passed k m some passed e t l q =
-      subst (λ (z : ℤ). z ≤ℤ k) (tops-agree (exampleNet x) e (resultOf x e .density) t (top e (omega arith)) q)
+      subst (λ (z : ℤ). z ≤ℤ k) (tops-agree (x .net) e (resultOf x e .density) t (top e (omega arith)) q)
       (leZ-yes (below-gives m (λ e. leZ (resultOf x e .density) k) passed e l))
 
-  said-passed : (s : Said) → T (saidTest x s) → IsSo (exampleNet x) s
-  said-passed (noneAt k) passed = under-passed k (length (x .constraints)) (le-refl (length (x .constraints))) passed
+  said-passed : (s : Said) → T (saidTest x s) → IsSo (x .net) s
+  said-passed (noneAt k) passed = under-passed k (x .net .constraints) (le-refl (x .net .constraints)) passed
   said-passed (denseAt k c) passed =
-      lowest-so (exampleNet x) k c (resultOf x c .density) is (top c is) (ltZ-yes (and-left above lower rest))
+      lowest-so (x .net) k c (resultOf x c .density) is (top c is) (ltZ-yes (and-left above lower rest))
       (under-passed k c (omega (arith, is)) (and-right above lower rest))
     where
       named : Bool
-      named = ltb c (length (x .constraints))
+      named = ltb c (x .net .constraints)
 
       above : Bool
       above = ltZ k (resultOf x c .density)
@@ -152,22 +151,22 @@ module _ (x : Example) (top : (c : ℕ) → c < length (x .constraints) → Top 
       lower : Bool
       lower = underTest x k c
 
-      is : c < length (x .constraints)
-      is = ltb→lt c (length (x .constraints)) (and-left named (above && lower) passed)
+      is : c < x .net .constraints
+      is = ltb→lt c (x .net .constraints) (and-left named (above && lower) passed)
 
       rest : T (above && lower)
       rest = and-right named (above && lower) passed
 
--- ---- a whole row
+-- ---- a whole example
 
 abbrev answersTest : Example → ℕ → Bool
-answersTest x c = answerTest (exampleNet x) c (resultOf x c .density) (setOf (resultOf x c .members))
+answersTest x c = answerTest (x .net) c (resultOf x c .density) (setOf (resultOf x c .members))
 
 abbrev pub correctTest : Example → Bool
 correctTest x =
-    properTest (exampleNet x)
-    && (eqb (length (x .results)) (length (x .constraints))
-    && (below (length (x .constraints)) (answersTest x) && below (length (x .said)) (λ i. saidTest x (saidAt x i))))
+    properTest (x .net)
+    && (eqb (length (x .results)) (x .net .constraints)
+    && (below (x .net .constraints) (answersTest x) && below (length (x .said)) (λ i. saidTest x (saidAt x i))))
 
 pub passed-correct : (x : Example) → T (correctTest x) → Correct x
 passed-correct x t =
@@ -177,13 +176,13 @@ passed-correct x t =
       answers = answers;
       said-so =
           λ i l.
-          said-passed x (λ c lc. answer-top (exampleNet x) c (resultOf x c .density) (setOf (resultOf x c .members)) (answers c lc))
+          said-passed x (λ c lc. answer-top (x .net) c (resultOf x c .density) (setOf (resultOf x c .members)) (answers c lc))
           (saidAt x i)
           (below-gives (length (x .said)) (λ i. saidTest x (saidAt x i)) (and-right q r t₂) i l);
     }
   where
     m : ℕ
-    m = length (x .constraints)
+    m = x .net .constraints
 
     p : Bool
     p = eqb (length (x .results)) m
@@ -195,15 +194,15 @@ passed-correct x t =
     r = below (length (x .said)) (λ i. saidTest x (saidAt x i))
 
     t₁ : T (p && (q && r))
-    t₁ = and-right (properTest (exampleNet x)) (p && (q && r)) t
+    t₁ = and-right (properTest (x .net)) (p && (q && r)) t
 
     t₂ : T (q && r)
     t₂ = and-right p (q && r) t₁
 
-    proper : Proper (exampleNet x)
-    proper = proper-passed (exampleNet x) (and-left (properTest (exampleNet x)) (p && (q && r)) t)
+    proper : Proper (x .net)
+    proper = proper-passed (x .net) (and-left (properTest (x .net)) (p && (q && r)) t)
 
-    answers : (c : ℕ) → c < m → AnswerSet (exampleNet x) c (resultOf x c .density) (setOf (resultOf x c .members))
+    answers : (c : ℕ) → c < m → AnswerSet (x .net) c (resultOf x c .density) (setOf (resultOf x c .members))
     answers c l =
-        answer-passed (exampleNet x) proper c l (resultOf x c .density) (setOf (resultOf x c .members))
+        answer-passed (x .net) proper c l (resultOf x c .density) (setOf (resultOf x c .members))
         (below-gives m (answersTest x) (and-left q r t₂) c l)

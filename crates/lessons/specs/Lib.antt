@@ -1,0 +1,2 @@
+-- the small drawings of 01
+pub mod Small

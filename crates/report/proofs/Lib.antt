@@ -1,0 +1,2 @@
+-- a theorem for a reader
+pub mod Input
