@@ -3,8 +3,9 @@
  *
  *   host [-s] DRAWING [K [C]]
  *
- * K is -3 unless given. C is the constraint to look at: unless given, the one that is dense at K, or else 0. With -s
- * the sheet's shares are printed too. The exit status is 0 where no call was refused, 1 where one was, and 2 where the
+ * K is -3 unless given. C is the constraint to look at: unless given, the one that is dense at K, or else 0. Whatever
+ * fits an int32_t as K, and a uint32_t as C, goes to the library, which refuses what is out of range. With -s the
+ * sheet's shares are printed too. The exit status is 0 where no call was refused, 1 where one was, and 2 where the
  * words or the file are no good.
  */
 #include <brentivex.h>
@@ -125,10 +126,10 @@ static int ask_constraint(const uint8_t *drawing, size_t len, uint32_t c, unsign
     return ask_sheet(drawing, len, c, constraints, density(block), with_shares);
 }
 
-static int read_number(const char *word, long least, long most, long *n)
+static int read_number(const char *word, long long least, long long most, long long *n)
 {
     char *end;
-    *n = strtol(word, &end, 10);
+    *n = strtoll(word, &end, 10);
     return end != word && *end == '\0' && *n >= least && *n <= most;
 }
 
@@ -136,15 +137,15 @@ int main(int argc, char **argv)
 {
     uint8_t drawing[MOST_READ], counts[BRENTIVEX_COUNTS_LEN];
     int with_shares = argc > 1 && strcmp(argv[1], "-s") == 0, status;
-    long k = -3, asked = 0;
+    long long k = -3, asked = 0;
     uint32_t code, c = 0;
     size_t len;
     FILE *file;
 
     argc -= with_shares;
     argv += with_shares;
-    if (argc < 2 || argc > 4 || (argc > 2 && !read_number(argv[2], -2147483647L, 2147483647L, &k)) ||
-        (argc > 3 && !read_number(argv[3], 0, 2147483647L, &asked))) {
+    if (argc < 2 || argc > 4 || (argc > 2 && !read_number(argv[2], INT32_MIN, INT32_MAX, &k)) ||
+        (argc > 3 && !read_number(argv[3], 0, UINT32_MAX, &asked))) {
         fprintf(stderr, "use: host [-s] DRAWING [K [C]]\n");
         return 2;
     }

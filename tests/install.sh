@@ -43,6 +43,27 @@ statuses() {
         { "$1" "$work/nothing" 2> "$work/out"; [ $? -eq 2 ]; }
 }
 
+# handed_on HOST LINE WORD..: the host gives these words for D to the library, which refuses one, as the line says.
+handed_on() {
+    "$1" examples/D.drawing "${@:3}" > "$work/out"
+    [ $? -eq 1 ] && grep -qF -- "$2" "$work/out"
+}
+
+# turned_away HOST WORD..: the host asks nothing.
+turned_away() {
+    "$1" examples/D.drawing "${@:2}" > "$work/out" 2> "$work/use"
+    [ $? -eq 2 ] && [ ! -s "$work/out" ]
+}
+
+# A K that fits an int32_t and a number that fits a uint32_t are the library's to refuse; others are no good.
+numbers() {
+    handed_on "$1" 'At K = -2147483648: refused, code 10:' -2147483648 &&
+        handed_on "$1" 'At K = 2147483647: refused, code 10:' 2147483647 &&
+        handed_on "$1" 'Constraint 4294967295: refused, code 11:' -3 4294967295 &&
+        turned_away "$1" -2147483649 && turned_away "$1" 2147483648 && turned_away "$1" 18446744073709551613 &&
+        turned_away "$1" -3 4294967296 && turned_away "$1" -3 -1 && turned_away "$1" ''
+}
+
 # The archive leaves no symbol undefined but those that the header names.
 symbols() {
     local undefined named
@@ -68,6 +89,7 @@ installed() {
         try 'the host prints the stored answers' answers "$host"
         try 'the rows of shares add up' rows "$host"
         try 'the exit status tells' statuses "$host"
+        try 'numbers are handed on where they fit' numbers "$host"
     done
     try 'three files and no other' files "$1"
 }
