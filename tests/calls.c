@@ -36,7 +36,7 @@ struct run {
 };
 
 static const struct run no_run = {NULL, 0};
-static unsigned long calls, answered;
+static unsigned long calls, answered, sum;
 
 /* The code that refuses the drawing asked about, or 0. */
 static uint32_t fault;
@@ -149,10 +149,10 @@ static struct run lend_filled(size_t len)
 }
 
 /* A call has ended: its code is one of the codes, that of the drawing's fault where it has one, and of the buffer only
-   the bytes named were written. */
+   the bytes named were written. Those are added up. */
 static uint32_t ended(uint32_t code, struct run buffer, size_t named)
 {
-    size_t i;
+    size_t i, written = code == BRENTIVEX_ANSWERED && buffer.len != 0 ? named : 0;
     calls++;
     answered += code == BRENTIVEX_ANSWERED;
     if (fault != 0)
@@ -161,7 +161,9 @@ static uint32_t ended(uint32_t code, struct run buffer, size_t named)
         must(code == BRENTIVEX_ANSWERED || (code >= BRENTIVEX_K_RANGE && code <= BRENTIVEX_TOO_SHORT) ||
                  code == BRENTIVEX_NONE_DENSE || code == BRENTIVEX_NOT_SHOWN,
              "unknown code");
-    for (i = code == BRENTIVEX_ANSWERED ? named : 0; i < buffer.len; i++)
+    for (i = 0; i < written; i++)
+        sum += buffer.bytes[i];
+    for (i = written; i < buffer.len; i++)
         must(buffer.bytes[i] == FILL, "a byte was written that is not named");
     return code;
 }
@@ -337,6 +339,6 @@ int main(int argc, char **argv)
     for (i = 0; i < COUNT(lengths); i++)
         ask_long(lengths[i]);
     must(calls >= 200000 && answered >= 9000, "too few calls");
-    printf("%lu calls, %lu answered\n", calls, answered);
+    printf("%lu calls, %lu answered with bytes of %lu in all\n", calls, answered, sum);
     return 0;
 }

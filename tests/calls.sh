@@ -4,8 +4,8 @@
 #
 #   pages behind, pages in front   the library touches no byte behind a run of bytes that is lent, or before it, and
 #                                  writes to no drawing and no sheet that is checked: a page stops it
-#   valgrind                       the library touches no byte round a run of bytes on the heap, and no result hangs on
-#                                  a byte that was never written; nothing leaks
+#   valgrind                       the library touches no byte round a run of bytes on the heap, and no code and no byte
+#                                  it answers hangs on a byte that was never written; nothing leaks
 #   AddressSanitizer               the calling program's own use of memory, and that it does nothing undefined; of the
 #                                  library, which is built without it, only the lengths it gives to memcpy and memset
 # shellcheck source=tests/common.sh
