@@ -1,11 +1,19 @@
 //! One million mutated drawings through all five questions, with guard bytes round every buffer. A refused drawing has
-//! the second program's code from every question. Of an accepted one the answers prove each other: a sound sheet whose
-//! claim is the density of the answer set shows that no set that holds the constraint is denser.
+//! the second program's code from every question.
+//!
+//! Of an accepted one a constraint is asked, and any dense near its density. With at most FEW_OBJECTS objects the block
+//! of both is the second program's, which tries every set. With more, the constraint's block is that of a minimum cut,
+//! and any dense gives a constraint that is dense, with its own block, or none; that it is the lowest-numbered one, or
+//! that there is none, is held against the asked constraint only. With any number of objects the answers prove each
+//! other as far as they can: a sound sheet whose claim is the density of the answer set shows that no set that holds the
+//! constraint is denser. It does not show that the answer set is the least of that density.
 mod common;
 use common::Tally;
+use second::answers::FEW_OBJECTS;
 use second::codes::*;
-use second::net::{members, Net};
-use second::questions::{Answer, BLOCK};
+use second::cut;
+use second::net::{members, Net, Top};
+use second::questions::{Answer, Counter, BLOCK};
 use second::reader::{read, Drawing};
 use second::sheet::{claim, ROW};
 use second::testing::drawings::*;
@@ -22,20 +30,22 @@ fn a_million_mutated_drawings() {
     let mut random = Random::from_seed(11);
     let mut tally = Tally::default();
     let (small, large) = (small_drawings(&mut random), large_drawings(&mut random));
-    let mut accepted = 0;
+    let (mut accepted, mut few) = (0, 0);
     for _ in 0..MUTANTS {
         let from = if random.once_in(ONE_IN_LARGE) { &large } else { &small };
         let chosen = random.below(from.len());
         let bytes = from[chosen].mutant(&mut random);
         match read(&bytes) {
             Ok(drawing) => {
+                let asked = Accepted::of(&bytes, &drawing);
                 accepted += 1;
-                Accepted { bytes: &bytes, net: Net::of(&drawing) }.every_question(&mut tally, &mut random);
+                few += usize::from(asked.few.is_some());
+                asked.every_question(&mut tally, &mut random);
             }
             Err(code) => refused(&mut tally, &mut random, &bytes, code),
         }
     }
-    assert!(accepted > MUTANTS / 10, "{accepted} accepted");
+    assert!(few > MUTANTS / 10 && accepted - few > MUTANTS / 50, "{accepted} accepted, {few} of few objects");
     tally.assert_codes((0..=12).chain([32, 33]));
 }
 
@@ -71,12 +81,24 @@ fn same(tally: &mut Tally, bytes: &[u8], found: &Outcome, code: u32, written: &[
     tally.compare(found, &wanted, room, fill, || format!("room {room}, {bytes:?}"));
 }
 
+/// An accepted drawing, with the second program's count of it where there are few objects.
 struct Accepted<'a> {
     bytes: &'a [u8],
     net: Net,
+    few: Option<Counter>,
 }
 
 impl Accepted<'_> {
+    fn of<'a>(bytes: &'a [u8], drawing: &Drawing) -> Accepted<'a> {
+        let few = (drawing.objects.len() <= FEW_OBJECTS).then(|| Counter::of(bytes));
+        Accepted { bytes, net: Net::of(drawing), few }
+    }
+
+    /// The second program's top of c: by trying every set where there are few objects, by a cut where there are many.
+    fn top(&self, c: usize) -> Top {
+        self.few.as_ref().map_or_else(|| cut::top(&self.net, c), |counter| counter.tops[c])
+    }
+
     fn every_question(&self, tally: &mut Tally, random: &mut Random) {
         let (objects, count) = (self.net.objects.len(), self.net.constraints.len());
         let counts = [(objects as u16).to_le_bytes(), (count as u16).to_le_bytes()].concat();
@@ -97,7 +119,7 @@ impl Accepted<'_> {
         }
     }
 
-    /// The block of c is that of a set that holds c; answers its density.
+    /// The block of c is the second program's, and that of a set that holds c; answers its density.
     fn one_constraint(&self, tally: &mut Tally, random: &mut Random, c: usize) -> i32 {
         let found = self.found(c);
         let (number, density, set) = found.block();
@@ -107,6 +129,7 @@ impl Accepted<'_> {
         assert!(members(set).all(|v| v < self.net.objects.len()), "unused bits of {c} of {:?}", self.bytes);
         let wanted = (c, self.net.density(set));
         assert_eq!((number, i64::from(density)), wanted, "constraint {c} of {:?}", self.bytes);
+        assert_eq!(Top { density: density.into(), set }, self.top(c), "constraint {c} of {:?}", self.bytes);
         density
     }
 
@@ -125,10 +148,15 @@ impl Accepted<'_> {
         }
     }
 
-    /// Near the density of c: a dense constraint has its own block and is c or lower where c is dense.
+    /// Near the density of c: the answer is the second program's where there are few objects; where there are many, a
+    /// dense constraint has its own block and is c or lower where c is dense.
     fn any_dense(&self, tally: &mut Tally, random: &mut Random, c: usize, density: i32) {
         let k = density + random.within(0, 2) as i32 - 1;
         let found = ffi::any_dense(self.bytes, k, BLOCK, 0);
+        if let Some(counter) = &self.few {
+            let wanted = counter.any_dense(k, BLOCK);
+            tally.compare(&found, &wanted, BLOCK, 0, || format!("K {k}, {:?}", self.bytes));
+        }
         if found.code == NONE_DENSE {
             assert!(density <= k, "none at {k} of {:?}", self.bytes);
             self.unwritten(tally, NONE_DENSE, &|room, fill| ffi::any_dense(self.bytes, k, room, fill));
