@@ -41,6 +41,36 @@ pub mod c {
     }
 }
 
+/// Calls on the caller's own bytes, where they lie: nothing is copied and nothing is looked at afterwards.
+pub mod in_place {
+    use super::c;
+
+    pub fn look_over(drawing: &[u8], buffer: &mut [u8]) -> u32 {
+        // SAFETY: the pointers are good for the lengths passed with them, and no buffer overlaps other bytes.
+        unsafe { c::brentivex_look_over(drawing.as_ptr(), drawing.len(), buffer.as_mut_ptr(), buffer.len()) }
+    }
+
+    pub fn one_constraint(drawing: &[u8], c: u32, buffer: &mut [u8]) -> u32 {
+        // SAFETY: as in look_over.
+        unsafe { c::brentivex_one_constraint(drawing.as_ptr(), drawing.len(), c, buffer.as_mut_ptr(), buffer.len()) }
+    }
+
+    pub fn any_dense(drawing: &[u8], k: i32, buffer: &mut [u8]) -> u32 {
+        // SAFETY: as in look_over.
+        unsafe { c::brentivex_any_dense(drawing.as_ptr(), drawing.len(), k, buffer.as_mut_ptr(), buffer.len()) }
+    }
+
+    pub fn sheet(drawing: &[u8], c: u32, buffer: &mut [u8]) -> u32 {
+        // SAFETY: as in look_over.
+        unsafe { c::brentivex_sheet(drawing.as_ptr(), drawing.len(), c, buffer.as_mut_ptr(), buffer.len()) }
+    }
+
+    pub fn check(drawing: &[u8], c: u32, sheet: &[u8], claim: i32) -> u32 {
+        // SAFETY: as in look_over.
+        unsafe { c::brentivex_check(drawing.as_ptr(), drawing.len(), c, sheet.as_ptr(), sheet.len(), claim) }
+    }
+}
+
 /// The code of a call, and the buffer after it with the guard bytes on both sides.
 pub struct Outcome {
     pub code: u32,
