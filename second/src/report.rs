@@ -1,14 +1,12 @@
 //! The report on a drawing, as text: both counts, a line for each constraint, and whether any set is dense at K = -3.
+//! The whole input is judged, however long it is.
 use crate::answers::{any_dense, tops};
 use crate::net::{members, Net};
 use crate::reader::read;
 
-/// So many bytes are read at most; a longer input is refused as this prefix of it is.
-pub const MOST_BYTES: usize = 6000;
 const K: i64 = -3;
 
 pub fn report(input: &[u8]) -> String {
-    let input = &input[..input.len().min(MOST_BYTES)];
     match read(input) {
         Ok(drawing) => counted(&Net::of(&drawing)),
         Err(fault) => format!("refused {fault}\n"),
