@@ -1,12 +1,13 @@
 //! One million mutated drawings through all five questions, with guard bytes round every buffer. A refused drawing has
 //! the second program's code from every question.
 //!
-//! Of an accepted one a constraint is asked, and any dense near its density. With at most FEW_OBJECTS objects the block
-//! of both is the second program's, which tries every set. With more, the constraint's block is that of a minimum cut,
-//! and any dense gives a constraint that is dense, with its own block, or none; that it is the lowest-numbered one, or
-//! that there is none, is held against the asked constraint only. With any number of objects the answers prove each
-//! other as far as they can: a sound sheet whose claim is the density of the answer set shows that no set that holds the
-//! constraint is denser. It does not show that the answer set is the least of that density.
+//! Of an accepted one a constraint is asked, and any dense near its density. With at most FEW_OBJECTS objects every
+//! byte of both answers is the second program's, which tries every set. With more, the constraint's block is that of a
+//! minimum cut, but of any dense only this is seen: a constraint that it gives has its own block and a density above K,
+//! and is not numbered above the asked one where that is dense; where it gives none, the asked one is not dense.
+//!
+//! With any number of objects the library's sheet is sound and claims the density of its answer set. That shows that no
+//! set that holds the constraint is denser; it does not show that the answer set is the least of that density.
 mod common;
 use common::Tally;
 use second::answers::FEW_OBJECTS;

@@ -1,6 +1,6 @@
 //! The report program against the second program's report: every byte that it prints, on many inputs. The report
-//! program reads 6,000 bytes at most and the second program all of its input, so where they agree on a longer input, its
-//! first 6,000 bytes gave it the refusal of the whole.
+//! program reads 6,000 bytes at most and the second program all of its input, so where they agree on a longer input,
+//! the first 6,000 bytes gave it the refusal of the whole.
 use second::report;
 use second::testing::drawings::*;
 use second::testing::mutants::Source;
@@ -91,7 +91,7 @@ fn longer_inputs_with_a_fault_anywhere_are_reported_as_the_second_program_does()
     met.assert((2..=9).collect());
 }
 
-/// An end record on every place from 5,880 to 6,012, behind records, cut records or zeros, with and without more behind.
+/// An end record on every place from 5,880 to 6,012 behind records, cut records or zeros, with more behind or nothing.
 #[test]
 fn end_records_round_byte_6000_are_reported_as_the_second_program_does() {
     let mut met = Codes::default();

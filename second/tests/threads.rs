@@ -1,5 +1,5 @@
-//! Many threads at once, each with another question, on drawings and sheets lent to all of them in the same memory: each
-//! gets the codes and bytes that one thread alone got, the sheets' too, and what was lent stays as it was.
+//! Many threads at once, each with another question, on drawings and sheets lent to all of them in the same memory:
+//! each gets the codes and bytes that one thread alone got, the sheets' too, and what was lent stays as it was.
 use second::codes::ANSWERED;
 use second::reader::Drawing;
 use second::testing::drawings::*;

@@ -1,4 +1,4 @@
-//! The second program's own report on the drawing on standard input.
+//! The second program's own report on the drawing on standard input, all of which is read.
 use std::io::{self, Read, Write};
 
 fn main() -> io::Result<()> {

@@ -1,8 +1,8 @@
-//! The C library: its declarations, and calls of it with guard bytes round every buffer.
+//! The C library: its declarations, calls on the caller's own bytes, and calls with guard bytes round every buffer.
 //!
-//! A buffer is filled with a pattern and lies between guard bytes; a call gives its code and all of these bytes
-//! afterwards, and `after` says what they must be. A drawing or sheet is lent as a copy between guard bytes, which must
-//! come back as it was; behind it end records stand, so that reading on past its length shows in the answer.
+//! For the last, a buffer is filled with a pattern and lies between guard bytes; a call gives its code and all of these
+//! bytes afterwards, and `after` says what they must be. A drawing or sheet is lent as a copy between guard bytes,
+//! which must come back as it was; behind it end records stand, so that reading on past its length shows in the answer.
 pub const GUARD: usize = 24;
 
 /// The declarations, for calls with pointers of the caller's own.

@@ -1,6 +1,7 @@
-//! Drawing, sheet and buffer at each of 16 places in a row: the answers are the same at each, and bytes round them stay.
+//! Drawing, sheet and buffer at each of 16 places in a row: the answers are the same at each, and the bytes round them
+//! stay.
 use second::codes::*;
-use second::questions::{BLOCK, COUNTS};
+use second::questions::{look_over, Counter, BLOCK, COUNTS};
 use second::reader::Drawing;
 use second::sheet::ROW;
 use second::testing::drawings::*;
@@ -65,6 +66,11 @@ fn same_at_every_place(drawing: &Drawing) {
         (ROW * count, &|drawing, buffer| in_place::sheet(drawing, c, buffer)),
         (ROW * count - 1, &|drawing, buffer| in_place::sheet(drawing, c, buffer)),
     ];
+    let counter = Counter::of(&bytes);
+    let wanted = [look_over(&bytes, COUNTS), counter.one_constraint(c, BLOCK), counter.any_dense(-64, BLOCK)];
+    for (question, wanted) in questions.iter().zip(wanted) {
+        assert_eq!(asked(&bytes, (0, 0), question), (ANSWERED, wanted.written));
+    }
     for (question, code) in questions.iter().zip([ANSWERED, ANSWERED, ANSWERED, NONE_DENSE, ANSWERED, TOO_SHORT]) {
         let first = asked(&bytes, (0, 0), question);
         assert_eq!(first.0, code);
@@ -72,10 +78,8 @@ fn same_at_every_place(drawing: &Drawing) {
             assert!(asked(&bytes, places, question) == first, "{places:?}, {} bytes, {bytes:?}", question.0);
         }
     }
-    let block = asked(&bytes, (0, 0), &questions[1]).1;
-    let top = i16::from_le_bytes([block[2], block[3]]).into();
     let sheet = asked(&bytes, (0, 0), &questions[4]).1;
-    checked_at_every_place(&bytes, c, &sheet, top);
+    checked_at_every_place(&bytes, c, &sheet, counter.tops[c as usize].density as i32);
 }
 
 fn checked_at_every_place(drawing: &[u8], c: u32, sheet: &[u8], top: i32) {

@@ -185,8 +185,8 @@ fn sheets_with_65_536_or_256_more_in_sum() {
     assert!(tried > 250, "{tried} tried");
 }
 
-/// Two rows on the same two objects: one gets `part` at its first end and the rest at its second, the other the rest and
-/// the part. So both rows, both objects and the whole agree with the accepted sheet in their low bits.
+/// Of two rows on the same two objects one gets `part` at its first end and the rest at its second, the other the rest
+/// and the part. So both rows, both objects and the whole agree with the accepted sheet in their low bits.
 #[test]
 fn sheets_that_agree_with_an_accepted_one_in_every_sum_but_for_high_bits() {
     let mut tried = [0; 2];
