@@ -54,18 +54,19 @@ fn hub(weight: u8) -> Drawing {
     drawing
 }
 
-/// A sheet by which the object receives so much from constraints of weight 15 and no other object receives anything.
-fn giving(net: &Net, object: usize, much: u32) -> Shares {
+/// A sheet by which the hub receives so much from constraints of weight 15 and no other object receives anything.
+fn giving(net: &Net, much: u32) -> Vec<u8> {
     let mut left = much;
-    let rows = net.constraints.iter().map(|constraint| {
-        let mut row = [0; 2];
-        if let Some(side) = constraint.ends.iter().position(|&end| end == object && constraint.weight == 15) {
+    let mut rows = vec![[0; 2]; net.constraints.len()];
+    for (constraint, row) in net.constraints.iter().zip(&mut rows) {
+        if let Some(side) = constraint.ends.iter().position(|&end| end == HUB) {
             row[side] = left.min(15);
             left -= row[side];
         }
-        row
-    });
-    rows.collect()
+    }
+    assert!(rows.iter().zip(&net.constraints).all(|(row, c)| i64::from(row[0] + row[1]) <= c.weight));
+    assert_eq!((received(net, &rows)[HUB], sum(&rows)), (much, much));
+    bytes(&rows).expect("narrow shares")
 }
 
 #[test]
@@ -73,21 +74,16 @@ fn an_object_that_receives_more_than_a_byte_holds() {
     for weight in [1, 2, 3, 14, 15] {
         let (mut tally, drawing) = (Tally::default(), writer::bytes(&hub(weight)));
         let asked = Asked::of(&drawing);
-        let net = asked.counter.net().expect("an accepted drawing");
-        let (all, weight) = (1 + 511 * 15 - 4, u32::from(weight));
-        let near = (1..30).flat_map(|times| [-1, 0, 1, weight as i32].map(|near| (256 * times + near) as u32));
+        let (all, weight) = (1 + 511 * 15 - 4, i32::from(weight));
+        let near = (1..30).flat_map(|times| [-1, 0, 1, weight].map(|near| 256 * times + near));
         for much in near.filter(|much| *much <= 511 * 15).chain([0, weight - 1, weight, weight + 1, 511 * 15]) {
-            let rows = giving(net, HUB, much);
-            assert!(rows.iter().zip(&net.constraints).all(|(row, c)| i64::from(row[0] + row[1]) <= c.weight));
-            assert_eq!((received(net, &rows)[HUB], sum(&rows)), (much, much));
-            let sheet = bytes(&rows).expect("narrow shares");
-            let own = asked.check(&mut tally, 0, &sheet, all - much as i32);
-            assert_eq!(own, if much <= weight { ANSWERED } else { NOT_SHOWN }, "{much} at weight {weight}");
-            for claim in [all, all - (much % 256) as i32, all - weight as i32, all - (much - much % 256) as i32] {
-                let own = claim == all - much as i32 && much <= weight;
-                assert_eq!(asked.check(&mut tally, 0, &sheet, claim), if own { ANSWERED } else { NOT_SHOWN });
+            let sheet = giving(asked.counter.net().expect("an accepted drawing"), much as u32);
+            for claim in [all - much, all, all - much % 256, all - weight, all - (much - much % 256)] {
+                let code = if much <= weight && claim == all - much { ANSWERED } else { NOT_SHOWN };
+                assert_eq!(asked.check(&mut tally, 0, &sheet, claim), code, "{much} at weight {weight}");
             }
         }
+        tally.assert_codes([ANSWERED, NOT_SHOWN]);
     }
 }
 
@@ -96,12 +92,13 @@ fn an_end_of_c_that_receives_a_multiple_of_256() {
     let (mut tally, drawing) = (Tally::default(), writer::bytes(&hub(15)));
     let asked = Asked::of(&drawing);
     let net = asked.counter.net().expect("an accepted drawing");
+    assert!(net.constraints[1].ends.contains(&HUB));
     let all = 1 + 511 * 15 - 15 - 2;
-    assert_eq!(asked.check(&mut tally, 1, &bytes(&giving(net, HUB, 0)).expect("no shares"), all), ANSWERED);
+    assert_eq!(asked.check(&mut tally, 1, &giving(net, 0), all), ANSWERED);
     for much in (1..30).map(|times| 256 * times).filter(|much| *much <= 511 * 15) {
-        let sheet = bytes(&giving(net, HUB, much)).expect("narrow shares");
-        for claim in [all - much as i32, all] {
-            assert_eq!(asked.check(&mut tally, 1, &sheet, claim), NOT_SHOWN, "{much} at an end of c");
+        for claim in [all - much, all] {
+            let code = asked.check(&mut tally, 1, &giving(net, much as u32), claim);
+            assert_eq!(code, NOT_SHOWN, "{much} at an end of c");
         }
     }
 }
