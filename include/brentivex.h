@@ -23,8 +23,8 @@
  *
  * A set of objects holds a constraint if both its ends are in the set. The density of a set is the weights of the
  * constraints it holds less the weights of its objects. The top density of a constraint is the greatest density of a
- * set that holds it, and its answer set is the one set of that density that lies inside every other. Good counts do
- * not show that a figure can be built: no coordinates, sizes or equations are looked at.
+ * set that holds it, and its answer set is the one set that holds it, has that density and lies inside every other
+ * such set. Good counts do not show that a figure can be built: no coordinates, sizes or equations are looked at.
  *
  * Every function
  *   - returns one of the codes below; a call that returns another code than 0 writes nothing;

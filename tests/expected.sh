@@ -1,7 +1,7 @@
 #!/usr/bin/env bash
-# What the gate tries is what tests/expected.txt lists, a path a line, sorted: every must-fail edit, every test, and
-# every example with what is stored of it. It prints each path that is gone or not listed. With --write it writes the
-# list anew. The last line is 'N passed, M failed'.
+# What the gate tries is what tests/expected.txt lists, a path a line, sorted: every must-fail edit, every file of tests/
+# and second/tests/, every example with what is stored of it, and what the report program is given and has to print. It
+# says which path is gone or not listed. With --write it writes the list anew. The last line is 'N passed, M failed'.
 # shellcheck source=tests/common.sh
 . "$(dirname "$0")/common.sh" || exit
 
@@ -12,7 +12,7 @@ export LC_ALL=C
 there() {
     find crates second/tests tests examples -path 'crates/*/must-fail/*.edit' -o -path 'second/tests/*.rs' \
         -o -path 'tests/*.sh' -o -path 'tests/*.c' -o -path 'examples/*.drawing' -o -path 'examples/*.report' \
-        -o -path 'examples/*.txt' | sort
+        -o -path 'examples/*.txt' -o -path examples/host.c -o -path 'crates/*/std*' | sort
 }
 
 as_listed() {

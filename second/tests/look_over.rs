@@ -13,7 +13,7 @@ use second::testing::writer::{self, constraint_record, end_record, object_record
 const ROOMS: [usize; 6] = [0, 3, 4, 5, 20, 64];
 
 #[test]
-fn more_than_200_000_drawings_and_every_code() {
+fn more_than_200_000_calls_and_every_code() {
     let mut tally = Tally::default();
     let mut random = Random::from_seed(3);
     rows_of_the_table(&mut tally);

@@ -1,4 +1,5 @@
-//! All five questions against the second program: every code and byte, on drawings of every build.
+//! All five questions against the second program, on drawings of every build: every code and byte; of a sheet, that it
+//! is sound and claims the top density.
 mod common;
 use common::asked::{Asked, KS, NUMBERS_OF_NO_CONSTRAINT};
 use common::Tally;

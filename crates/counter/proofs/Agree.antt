@@ -1,5 +1,5 @@
 -- Two outcomes that both fit a question agree: the questions determine the code and every byte written. The sheet is the one
--- exception: two outcomes agree in the code and in how many bytes are written. Assumes nothing.
+-- exception: two results agree in the code and in every byte behind the sheet, and where the code is not 0 in the whole buffer. Assumes nothing.
 use mathlib.Core.Path.{_≡_, sym, _∙_, ap, subst}
 use mathlib.Core.Logic.{_⊎_, inl, inr}
 use mathlib.Core.List.{List}

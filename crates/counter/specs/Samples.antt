@@ -1,73 +1,70 @@
--- Samples that hold the definitions to 01, computed: 'Both sides' of K and of rooms, the order of faults, and the bytes of a block. The calls
--- are about n objects and one constraint. Assumes nothing.
+-- Samples that hold the definitions to 01, computed: 'Both sides' of K and of rooms, the order of faults, and the bytes that are
+-- written. Assumes nothing.
 use mathlib.Core.Path.{_≡_, refl}
-use mathlib.Core.List.{[], _∷_}
+use mathlib.Core.List.{List, [], _∷_, map}
 use Prim.Native.Nat.{ℕ}
 use lib.IntN.{pos, negsuc}
+use lib.ListN.{replicate}
 use Rattle.density.specs.Sum.{sum}
 use Rattle.density.specs.Net.{first, second}
 use Rattle.density.specs.Example.{setOf}
 use Rattle.drawing.specs.Choice.{pick}
 use Rattle.drawing.specs.Tabulated.{tabulated}
+use Rattle.drawing.specs.Samples.{aPoint, distance, Judged}
 use Rattle.records.specs.Format.{twoAt}
 use Rattle.counter.specs.Block.{two, complement, setByte, setBytes, block, signed}
 use Rattle.checker.specs.Sheet.{sheetIn}
-use Rattle.counter.specs.Outcome.{Question}
-use Rattle.counter.specs.Question.{lookOver, oneConstraint, anyDense, sheetFor, check}
+use Rattle.counter.specs.Outcome.{Question, over}
+use Rattle.counter.specs.Question.{counts, lookOver, oneConstraint, anyDense, sheetFor, check}
 
--- the fault of a question about a drawing with one constraint
-abbrev pub faultOf : Question → ℕ
-faultOf q = q .fault 2 1
+-- the fault of a question about two objects and one constraint, and what it is said to be
+abbrev pub judged : Question → ℕ → Judged
+judged q n = record { fault = q .fault 2 1; said = n }
 
--- "K = -64 passes, -65 is refused 10"; 8,191 passes, 8,192 is refused 10. -64 is `negsuc 63`
-pub least-K : (faultOf (anyDense (negsuc 63) 20) ≡ 0) × (faultOf (anyDense (negsuc 64) 20) ≡ 10)
+abbrev pub samples : List Judged
+samples =
+    -- "K = -64 passes, -65 is refused 10"; 8,191 passes, 8,192 is refused 10. -64 is `negsuc 63`
+    judged (anyDense (negsuc 63) 20) 0
+    ∷ judged (anyDense (negsuc 64) 20) 10
+    ∷ judged (anyDense (pos 8191) 20) 0
+    ∷ judged (anyDense (pos 8192) 20) 10
+    -- "a 20-byte block buffer passes, 19 is refused 12"
+    ∷ judged (oneConstraint 0 20) 0
+    ∷ judged (oneConstraint 0 19) 12
+    ∷ judged (anyDense (pos 0) 20) 0
+    ∷ judged (anyDense (pos 0) 19) 12
+    -- "Buffers need 4, 20, 20, and 4 bytes per constraint"
+    ∷ judged (lookOver 4) 0
+    ∷ judged (lookOver 3) 12
+    ∷ judged (sheetFor 0 4) 0
+    ∷ judged (sheetFor 0 3) 12
+    ∷ judged (check 0 (replicate 4 0) (pos 0)) 0
+    ∷ judged (check 0 (replicate 3 0) (pos 0)) 12
+    -- "A sheet buffer of length 0 is too short whenever c exists"
+    ∷ judged (sheetFor 0 0) 12
+    -- "no constraint has the number c": of one constraint, 0 is a number and 1 is none; 65,536 is not taken for 0
+    ∷ judged (oneConstraint 1 20) 11
+    ∷ judged (oneConstraint 65536 20) 11
+    ∷ judged (sheetFor 1 4) 11
+    ∷ judged (check 1 (replicate 4 0) (pos 0)) 11
+    -- "Then 9, 10, 11, 12": where K or the number is bad as well as the room, the room is not the first fault
+    ∷ judged (anyDense (pos 8192) 0) 10
+    ∷ judged (oneConstraint 1 0) 11
+    ∷ judged (sheetFor 1 0) 11
+    ∷ judged (check 1 [] (pos 0)) 11
+    ∷ []
+
+pub judged-as-said : map (λ (x : Judged). x .fault) samples ≡ map (λ (x : Judged). x .said) samples
 unfolding pick
-least-K = (refl, refl)
+judged-as-said = refl
 
-pub most-K : (faultOf (anyDense (pos 8191) 20) ≡ 0) × (faultOf (anyDense (pos 8192) 20) ≡ 10)
-unfolding pick
-most-K = (refl, refl)
+-- "number of objects and of constraints, 2 bytes each": two objects and 258 constraints
+pub both-counts : counts (record { objects = replicate 2 aPoint; constraints = replicate 258 (distance 0 1) }) ≡ 2 ∷ 0 ∷ 2 ∷ 1 ∷ []
+both-counts = refl
 
--- "Buffers need 4, 20, 20, and 4 bytes per constraint"; "a 20-byte block buffer passes, 19 is refused 12"
-pub look-over-room : (faultOf (lookOver 4) ≡ 0) × (faultOf (lookOver 3) ≡ 12)
-unfolding pick
-look-over-room = (refl, refl)
-
-pub block-room : (faultOf (oneConstraint 0 20) ≡ 0) × (faultOf (oneConstraint 0 19) ≡ 12)
-unfolding pick
-block-room = (refl, refl)
-
-pub any-dense-room : (faultOf (anyDense (pos 0) 20) ≡ 0) × (faultOf (anyDense (pos 0) 19) ≡ 12)
-unfolding pick
-any-dense-room = (refl, refl)
-
-pub sheet-room : (faultOf (sheetFor 0 4) ≡ 0) × (faultOf (sheetFor 0 3) ≡ 12)
-unfolding pick
-sheet-room = (refl, refl)
-
-pub check-room :
-    (faultOf (check 0 (0 ∷ 0 ∷ 0 ∷ 0 ∷ []) (pos 0)) ≡ 0) × (faultOf (check 0 (0 ∷ 0 ∷ 0 ∷ []) (pos 0)) ≡ 12)
-unfolding pick
-check-room = (refl, refl)
-
--- "A sheet buffer of length 0 is too short whenever c exists"
-pub no-room-for-a-sheet : faultOf (sheetFor 0 0) ≡ 12
-unfolding pick
-no-room-for-a-sheet = refl
-
--- "no constraint has the number c": of one constraint, 0 is a number and 1 is none; 65,536 is not taken for 0
-pub numbers : (faultOf (oneConstraint 1 20) ≡ 11) × (faultOf (oneConstraint 65536 20) ≡ 11)
-unfolding pick
-numbers = (refl, refl)
-
--- "Then 9, 10, 11, 12": where K or the number is bad as well as the room, the room is not the first fault
-pub range-before-room : faultOf (anyDense (pos 8192) 0) ≡ 10
-unfolding pick
-range-before-room = refl
-
-pub number-before-room : faultOf (sheetFor 1 0) ≡ 11
-unfolding pick
-number-before-room = refl
+-- "Only the bytes named are written; the rest of a longer buffer stays"
+pub the-rest-stays : over (1 ∷ 2 ∷ []) (9 ∷ 8 ∷ 7 ∷ 6 ∷ []) ≡ 1 ∷ 2 ∷ 7 ∷ 6 ∷ []
+the-rest-stays = refl
 
 -- "The answer block is 20 bytes": constraint 258, density -3 and the objects 1 and 9 of ten
 pub a-block :

@@ -1,4 +1,4 @@
--- Two ways to make one listing of a net into another, by weights alone: its objects get other numbers, or its constraints are gathered.
+-- Two ways to make one listing of a drawing into another, by weights alone: its objects get other numbers, or its constraints are gathered.
 -- Reordering, exchanging ends and joining all gather constraints. Assumes nothing.
 use mathlib.Core.Path.{_≡_}
 use Prim.Native.Nat.{ℕ, _<_}

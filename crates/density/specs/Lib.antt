@@ -5,7 +5,7 @@ pub mod Density
 pub mod Top
 pub mod Sheet
 pub mod Listing
-pub mod Change
 pub mod Example
 -- what only states inner laws
+pub mod Change
 pub mod Closed

@@ -1,6 +1,5 @@
--- Two listings of one drawing. Demand 3: renumbering, reordering, exchanging ends, or joining several constraints on a pair into one with
--- the summed weight changes nothing but the names. What is one drawing is said by pairs of objects; the changes are in Change and, over drawings, in `net/specs/Change`.
--- Assumes nothing.
+-- Two listings of one drawing, by weights alone: what the constraints on each pair of objects take in sum. Demand 3: renumbering, reordering,
+-- exchanging ends, or joining several constraints on a pair into one with the summed weight changes nothing but the names. Assumes nothing.
 use mathlib.Core.Path.{_≡_}
 use mathlib.Core.Bool.{Bool, _&&_}
 use mathlib.Core.Logic.{_⊎_}

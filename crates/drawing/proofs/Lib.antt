@@ -6,6 +6,7 @@ pub mod Faults
 pub mod Stores
 pub mod WeightRange
 pub mod WeightKept
+-- a theorem that no other crate cites, for a reader
+pub mod EitherOrder
 -- what only the proofs of this crate use
-mod EitherOrder
 mod WeightsIn

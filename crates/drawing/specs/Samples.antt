@@ -1,16 +1,17 @@
--- Samples that hold the definitions to 01, computed: the weights of the objects, the table of constraints written out, the limits from both
--- sides, and a stated weight. Assumes nothing.
+-- Samples that hold the definitions to 01, computed: the weights of the objects, the table of constraints written out, the faults of entries
+-- from both sides and in their order, and stated weights. Assumes nothing.
 use mathlib.Core.Path.{_≡_, refl}
 use mathlib.Core.Bool.{true, false}
-use mathlib.Core.List.{List, [], _∷_}
+use mathlib.Core.List.{List, [], _∷_, map}
 use Prim.Native.Nat.{ℕ, suc}
 use Rattle.drawing.specs.Choice.{pick}
 use Rattle.drawing.specs.Tabulated.{tabulated}
 use Rattle.drawing.specs.Table.{objectKind, objectTable, allowed, tableWeight}
 use Rattle.drawing.specs.declared.Object.{Object}
 use Rattle.drawing.specs.declared.Constraint.{Constraint}
+use Rattle.drawing.specs.Entry.{Drawing}
 use Rattle.drawing.specs.Fault.{objectFault, constraintFault}
-use Rattle.drawing.specs.Weight.{inForce, constraintWeight}
+use Rattle.drawing.specs.Weight.{inForce, objectWeight, constraintWeight}
 
 -- ---- entries: "1 point", "5 rigid cluster"; "1 distance", "3 coincidence", "6 shared point"; none states a weight
 
@@ -57,81 +58,95 @@ object-weights = refl
 abbrev pub row : ℕ → List (List ℕ)
 row k = tabulated 5 (λ a. tabulated 5 (λ b. tableWeight k (suc a) (suc b)))
 
-abbrev pub nothing : List ℕ
-nothing = 0 ∷ 0 ∷ 0 ∷ 0 ∷ 0 ∷ []
+abbrev pub none : List ℕ
+none = 0 ∷ 0 ∷ 0 ∷ 0 ∷ 0 ∷ []
 
--- "1 distance: point and point, point and line, line and line: 1"
-pub distance-row : row 1 ≡ (1 ∷ 1 ∷ 0 ∷ 0 ∷ 0 ∷ []) ∷ (1 ∷ 1 ∷ 0 ∷ 0 ∷ 0 ∷ []) ∷ nothing ∷ nothing ∷ nothing ∷ []
+abbrev pub noRow : List (List ℕ)
+noRow = none ∷ none ∷ none ∷ none ∷ none ∷ []
+
+-- the rows of the kinds 0 to 8
+abbrev pub rows : List (List (List ℕ))
+rows =
+    noRow
+    -- "1 distance: point and point, point and line, line and line: 1"
+    ∷ ((1 ∷ 1 ∷ 0 ∷ 0 ∷ 0 ∷ []) ∷ (1 ∷ 1 ∷ 0 ∷ 0 ∷ 0 ∷ []) ∷ none ∷ none ∷ none ∷ [])
+    -- "2 angle, parallel included: line and line: 1"
+    ∷ (none ∷ (0 ∷ 1 ∷ 0 ∷ 0 ∷ 0 ∷ []) ∷ none ∷ none ∷ none ∷ [])
+    -- "3 coincidence: point and point: 2"
+    ∷ ((2 ∷ 0 ∷ 0 ∷ 0 ∷ 0 ∷ []) ∷ none ∷ none ∷ none ∷ none ∷ [])
+    -- "4 incidence: point and line, point and circle of either kind: 1"
+    ∷ ((0 ∷ 1 ∷ 1 ∷ 1 ∷ 0 ∷ []) ∷ (1 ∷ 0 ∷ 0 ∷ 0 ∷ 0 ∷ []) ∷ (1 ∷ 0 ∷ 0 ∷ 0 ∷ 0 ∷ []) ∷ (1 ∷ 0 ∷ 0 ∷ 0 ∷ 0 ∷ []) ∷ none ∷ [])
+    -- "5 tangency: line and circle, circle and circle, either kind: 1"
+    ∷ (none ∷ (0 ∷ 0 ∷ 1 ∷ 1 ∷ 0 ∷ []) ∷ (0 ∷ 1 ∷ 1 ∷ 1 ∷ 0 ∷ []) ∷ (0 ∷ 1 ∷ 1 ∷ 1 ∷ 0 ∷ []) ∷ none ∷ [])
+    -- "6 shared point: cluster and cluster: 2"
+    ∷ (none ∷ none ∷ none ∷ none ∷ (0 ∷ 0 ∷ 0 ∷ 0 ∷ 2 ∷ []) ∷ [])
+    -- "7 same centre: circle and circle, either kind: 2"
+    ∷ (none ∷ none ∷ (0 ∷ 0 ∷ 2 ∷ 2 ∷ 0 ∷ []) ∷ (0 ∷ 0 ∷ 2 ∷ 2 ∷ 0 ∷ []) ∷ none ∷ [])
+    ∷ noRow
+    ∷ []
+
+pub table-written-out : tabulated 9 row ≡ rows
 unfolding tabulated tableWeight allowed pick
-distance-row = refl
+table-written-out = refl
 
--- "2 angle, parallel included: line and line: 1"
-pub angle-row : row 2 ≡ nothing ∷ (0 ∷ 1 ∷ 0 ∷ 0 ∷ 0 ∷ []) ∷ nothing ∷ nothing ∷ nothing ∷ []
-unfolding tabulated tableWeight allowed pick
-angle-row = refl
+-- ---- faults
 
--- "3 coincidence: point and point: 2"
-pub coincidence-row : row 3 ≡ (2 ∷ 0 ∷ 0 ∷ 0 ∷ 0 ∷ []) ∷ nothing ∷ nothing ∷ nothing ∷ nothing ∷ []
-unfolding tabulated tableWeight allowed pick
-coincidence-row = refl
+-- a fault, and what it is said to be
+pub record Judged : Type 0 where
+  pub fault : ℕ
+  pub said : ℕ
 
--- "4 incidence: point and line, point and circle of either kind: 1"
-pub incidence-row :
-    row 4 ≡ (0 ∷ 1 ∷ 1 ∷ 1 ∷ 0 ∷ []) ∷ (1 ∷ 0 ∷ 0 ∷ 0 ∷ 0 ∷ []) ∷ (1 ∷ 0 ∷ 0 ∷ 0 ∷ 0 ∷ []) ∷ (1 ∷ 0 ∷ 0 ∷ 0 ∷ 0 ∷ []) ∷ nothing ∷ []
-unfolding tabulated tableWeight allowed pick
-incidence-row = refl
+-- an object after n objects and m constraints
+abbrev pub ofObject : ℕ → ℕ → Object → ℕ → Judged
+ofObject n m o f = record { fault = objectFault n m o; said = f }
 
--- "5 tangency: line and circle, circle and circle, either kind: 1"
-pub tangency-row :
-    row 5 ≡ nothing ∷ (0 ∷ 0 ∷ 1 ∷ 1 ∷ 0 ∷ []) ∷ (0 ∷ 1 ∷ 1 ∷ 1 ∷ 0 ∷ []) ∷ (0 ∷ 1 ∷ 1 ∷ 1 ∷ 0 ∷ []) ∷ nothing ∷ []
-unfolding tabulated tableWeight allowed pick
-tangency-row = refl
+-- a constraint after two points and m constraints
+abbrev pub ofConstraint : ℕ → Constraint → ℕ → Judged
+ofConstraint m c f = record { fault = constraintFault 2 m 1 1 c; said = f }
 
--- "6 shared point: cluster and cluster: 2"
-pub shared-point-row : row 6 ≡ nothing ∷ nothing ∷ nothing ∷ nothing ∷ (0 ∷ 0 ∷ 0 ∷ 0 ∷ 2 ∷ []) ∷ []
-unfolding tabulated tableWeight allowed pick
-shared-point-row = refl
+abbrev pub samples : List Judged
+samples =
+    -- "128 objects pass, 129 are refused 5"; 512 constraints pass, "the 513th constraint" is refused 5
+    ofObject 127 0 aPoint 0
+    ∷ ofObject 128 0 aPoint 5
+    ∷ ofConstraint 511 (distance 0 1) 0
+    ∷ ofConstraint 512 (distance 0 1) 5
+    -- "stated weight 15 passes, 16 is refused 7"
+    ∷ ofObject 0 0 (objectStating 15 aPoint) 0
+    ∷ ofObject 0 0 (objectStating 16 aPoint) 7
+    ∷ ofConstraint 0 (stating 15 (distance 0 1)) 0
+    ∷ ofConstraint 0 (stating 16 (distance 0 1)) 7
+    -- "an end that names no object, or both ends the same": of two objects
+    ∷ ofConstraint 0 (distance 1 0) 0
+    ∷ ofConstraint 0 (distance 0 2) 8
+    ∷ ofConstraint 0 (distance 2 0) 8
+    ∷ ofConstraint 0 (distance 1 1) 8
+    -- "4, 5, 8, 6, 7": an object after a constraint, one too many, of an unknown kind, with a stated weight of 16, each put right in turn
+    ∷ ofObject 128 1 (record { kind = 0; stated = 16 }) 4
+    ∷ ofObject 128 0 (record { kind = 0; stated = 16 }) 5
+    ∷ ofObject 0 0 (record { kind = 0; stated = 16 }) 6
+    ∷ ofObject 0 0 (record { kind = 1; stated = 16 }) 7
+    -- a constraint, one too many, from an object to itself, not allowed between two points, with a stated weight of 16
+    ∷ ofConstraint 512 (stating 16 (ofKind 2 0 0)) 5
+    ∷ ofConstraint 0 (stating 16 (ofKind 2 0 0)) 8
+    ∷ ofConstraint 0 (stating 16 (ofKind 2 0 1)) 6
+    ∷ ofConstraint 0 (stating 16 (ofKind 1 0 1)) 7
+    ∷ []
 
--- "7 same centre: circle and circle, either kind: 2"
-pub same-centre-row : row 7 ≡ nothing ∷ nothing ∷ (0 ∷ 0 ∷ 2 ∷ 2 ∷ 0 ∷ []) ∷ (0 ∷ 0 ∷ 2 ∷ 2 ∷ 0 ∷ []) ∷ nothing ∷ []
-unfolding tabulated tableWeight allowed pick
-same-centre-row = refl
+pub judged-as-said : map (λ (x : Judged). x .fault) samples ≡ map (λ (x : Judged). x .said) samples
+unfolding objectFault constraintFault objectKind tableWeight allowed pick
+judged-as-said = refl
 
--- there is no kind 0 and no kind 8
-pub no-other-row : (row 0 ≡ nothing ∷ nothing ∷ nothing ∷ nothing ∷ nothing ∷ []) × (row 8 ≡ nothing ∷ nothing ∷ nothing ∷ nothing ∷ nothing ∷ [])
-unfolding tabulated tableWeight allowed pick
-no-other-row = (refl, refl)
+-- ---- a stated weight replaces the table weight, and is never added to it
 
--- ---- "Both sides"
+-- of a point that states 7 and a distance that states 3; the other point states none
+abbrev pub statingDrawing : Drawing
+statingDrawing = record { objects = objectStating 7 aPoint ∷ aPoint ∷ []; constraints = stating 3 (distance 0 1) ∷ distance 1 0 ∷ [] }
 
--- "128 objects pass, 129 are refused 5": an object after 127 others, and after 128
-pub objects-both-sides : (objectFault 127 0 aPoint ≡ 0) × (objectFault 128 0 aPoint ≡ 5)
-unfolding objectFault objectKind pick
-objects-both-sides = (refl, refl)
+pub stated-replaces : (objectWeight statingDrawing 0 ≡ 7) × (constraintWeight statingDrawing 0 ≡ 3)
+unfolding objectWeight constraintWeight inForce pick
+stated-replaces = (refl, refl)
 
--- "the 513th constraint": a distance between two points after 511 constraints, and after 512
-pub constraints-both-sides : (constraintFault 2 511 1 1 (distance 0 1) ≡ 0) × (constraintFault 2 512 1 1 (distance 0 1) ≡ 5)
-unfolding constraintFault tableWeight allowed pick
-constraints-both-sides = (refl, refl)
-
--- "stated weight 15 passes, 16 is refused 7"
-pub stated-both-sides : (objectFault 0 0 (objectStating 15 aPoint) ≡ 0) × (objectFault 0 0 (objectStating 16 aPoint) ≡ 7)
-unfolding objectFault objectKind pick
-stated-both-sides = (refl, refl)
-
-pub constraint-stated-both-sides :
-    (constraintFault 2 0 1 1 (stating 15 (distance 0 1)) ≡ 0) × (constraintFault 2 0 1 1 (stating 16 (distance 0 1)) ≡ 7)
-unfolding constraintFault tableWeight allowed pick
-constraint-stated-both-sides = (refl, refl)
-
--- an end below the number of objects passes, and that number is refused 8; so is the same end twice
-pub end-both-sides :
-    (constraintFault 2 0 1 1 (distance 1 0) ≡ 0) × (constraintFault 2 0 1 0 (distance 0 2) ≡ 8) × (constraintFault 2 0 1 1 (distance 1 1) ≡ 8)
-unfolding constraintFault tableWeight allowed pick
-end-both-sides = (refl, refl, refl)
-
--- ---- a stated weight replaces the table weight: 1 is not added to 3
-pub stated-replaces :
-    constraintWeight (record { objects = aPoint ∷ aPoint ∷ []; constraints = stating 3 (distance 0 1) ∷ [] }) 0 ≡ 3
-unfolding constraintWeight inForce pick
-stated-replaces = refl
+pub none-stated : (objectWeight statingDrawing 1 ≡ 2) × (constraintWeight statingDrawing 1 ≡ 1)
+unfolding objectWeight constraintWeight inForce objectTable tableWeight allowed pick
+none-stated = (refl, refl)

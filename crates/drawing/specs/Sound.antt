@@ -1,4 +1,4 @@
--- What an entry with no fault says, and a drawing that is accepted: what 01 asks of them, one by one. Assumes nothing.
+-- What an entry with no fault says, and a drawing that is accepted. 01, 'What is turned away, in order', one by one. Assumes nothing.
 use mathlib.Core.Path.{_≡_}
 use mathlib.Core.Bool.{true}
 use Prim.Native.Nat.{ℕ, _<_, _≤_}

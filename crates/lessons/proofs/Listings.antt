@@ -1,4 +1,4 @@
--- The four changes at work on small drawings: C renumbered, C reordered, C with ends exchanged, and H joined. Assumes nothing.
+-- The four changes at work on small drawings: C renumbered, then reordered, then with ends exchanged; and H joined. Assumes nothing.
 use mathlib.Core.Path.{_≡_, refl}
 use mathlib.Core.Logic.{inl, inr}
 use mathlib.Core.List.{[], _∷_}

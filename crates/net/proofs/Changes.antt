@@ -1,5 +1,5 @@
--- Each of the four changes keeps the weights in force and so gives two listings of one net, and so does every sequence of them; what a
--- constraint becomes corresponds to it. Assumes nothing.
+-- Renumbering, reordering and exchanging ends keep every weight in force, and joining keeps their sums; so the nets before and after are
+-- listings of one drawing, also by any sequence of changes, and what a constraint becomes corresponds to it. Assumes nothing.
 use mathlib.Core.Path.{_≡_, refl, sym, _∙_, ap, subst}
 use mathlib.Core.Logic.{_⊎_, inl, inr}
 use mathlib.Core.List.{List}

@@ -1,5 +1,5 @@
--- "6,000 bytes at most; that prefix gives every longer input its refusal" (01, the report): bytes longer than the longest drawing and one
--- record more are refused, and their first k bytes with the same number. Assumes nothing.
+-- 01, of the report: "6,000 bytes at most; that prefix gives every longer input its refusal". Where k is at least the longest drawing and one
+-- record more, bytes longer than k are refused, and their first k with the same number. Assumes nothing.
 use mathlib.Core.Path.{_≡_, refl, sym, _∙_, ap, subst}
 use mathlib.Core.Bool.{Bool, false, not}
 use mathlib.Core.List.{List, [], _∷_}
