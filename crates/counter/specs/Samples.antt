@@ -2,9 +2,10 @@
 -- written. Assumes nothing.
 use mathlib.Core.Path.{_≡_, refl}
 use mathlib.Core.List.{List, [], _∷_, map}
-use Prim.Native.Nat.{ℕ}
+use Prim.Native.Nat.{ℕ, _+_, _*_, _/_, _%_, _^_}
+use lib.Dec.{eqb}
 use lib.IntN.{pos, negsuc}
-use lib.ListN.{replicate}
+use lib.ListN.{length, replicate}
 use Rattle.density.specs.Sum.{sum}
 use Rattle.density.specs.Net.{first, second}
 use Rattle.density.specs.Example.{setOf}
@@ -12,14 +13,18 @@ use Rattle.drawing.specs.Choice.{pick}
 use Rattle.drawing.specs.Tabulated.{tabulated}
 use Rattle.drawing.specs.Samples.{aPoint, distance, Judged}
 use Rattle.records.specs.Format.{twoAt}
+use Rattle.records.specs.Read.{refused}
 use Rattle.counter.specs.Block.{two, complement, setByte, setBytes, block, signed}
 use Rattle.checker.specs.Sheet.{sheetIn}
-use Rattle.counter.specs.Outcome.{Question, over}
+use Rattle.counter.specs.Outcome.{Question, firstFault, over}
 use Rattle.counter.specs.Question.{counts, lookOver, oneConstraint, anyDense, sheetFor, check}
 
--- the fault of a question about two objects and one constraint, and what it is said to be
+-- the fault of a question about two objects and m constraints, or one, and what it is said to be
+abbrev pub judgedOf : ℕ → Question → ℕ → Judged
+judgedOf m q n = record { fault = q .fault 2 m; said = n }
+
 abbrev pub judged : Question → ℕ → Judged
-judged q n = record { fault = q .fault 2 1; said = n }
+judged = judgedOf 1
 
 abbrev pub samples : List Judged
 samples =
@@ -38,8 +43,12 @@ samples =
     ∷ judged (lookOver 3) 12
     ∷ judged (sheetFor 0 4) 0
     ∷ judged (sheetFor 0 3) 12
+    ∷ judgedOf 3 (sheetFor 0 12) 0
+    ∷ judgedOf 3 (sheetFor 0 11) 12
     ∷ judged (check 0 (replicate 4 0) (pos 0)) 0
     ∷ judged (check 0 (replicate 3 0) (pos 0)) 12
+    ∷ judgedOf 3 (check 0 (replicate 12 0) (pos 0)) 0
+    ∷ judgedOf 3 (check 0 (replicate 11 0) (pos 0)) 12
     -- "A sheet buffer of length 0 is too short whenever c exists"
     ∷ judged (sheetFor 0 0) 12
     -- "no constraint has the number c": of one constraint, 0 is a number and 1 is none; 65,536 is not taken for 0
@@ -54,9 +63,16 @@ samples =
     ∷ judged (check 1 [] (pos 0)) 11
     ∷ []
 
+pub as-many : length samples ≡ 27
+as-many = refl
+
 pub judged-as-said : map (λ (x : Judged). x .fault) samples ≡ map (λ (x : Judged). x .said) samples
 unfolding pick
 judged-as-said = refl
+
+-- the drawing's fault comes before those of what is asked
+pub drawing-first : firstFault (anyDense (pos 8192) 0) (refused 9) ≡ 9
+drawing-first = refl
 
 -- "number of objects and of constraints, 2 bytes each": two objects and 258 constraints
 pub both-counts : counts (record { objects = replicate 2 aPoint; constraints = replicate 258 (distance 0 1) }) ≡ 2 ∷ 0 ∷ 2 ∷ 1 ∷ []
@@ -73,6 +89,13 @@ pub a-block :
 unfolding block complement setBytes setByte tabulated sum
 a-block = refl
 
+-- "object i at bit i mod 8 of byte i / 8": all 128 objects, of which v is in the set if bit v mod 8 of 13 (v / 8) + 29 is 1
+pub set-in-bytes :
+    setBytes 128 (λ v. eqb ((13 * (v / 8) + 29) / 2 ^ (v % 8) % 2) 1)
+    ≡ 29 ∷ 42 ∷ 55 ∷ 68 ∷ 81 ∷ 94 ∷ 107 ∷ 120 ∷ 133 ∷ 146 ∷ 159 ∷ 172 ∷ 185 ∷ 198 ∷ 211 ∷ 224 ∷ []
+unfolding setBytes setByte tabulated sum
+set-in-bytes = refl
+
 -- density 300, and how both densities are read back
 pub a-density : (two (complement (pos 300)) ≡ 44 ∷ 1 ∷ []) × (signed 300 ≡ pos 300) × (signed 65533 ≡ negsuc 2)
 unfolding complement signed
@@ -80,6 +103,6 @@ a-density = (refl, refl, refl)
 
 -- "2 unsigned bytes a share, 4 bytes a constraint": the shares of constraint 1 in a sheet of two
 pub a-sheet :
-    (sheetIn (9 ∷ 9 ∷ 9 ∷ 9 ∷ 1 ∷ 0 ∷ 2 ∷ 1 ∷ []) first 1 ≡ 1) × (sheetIn (9 ∷ 9 ∷ 9 ∷ 9 ∷ 1 ∷ 0 ∷ 2 ∷ 1 ∷ []) second 1 ≡ 258)
+    (sheetIn (9 ∷ 9 ∷ 9 ∷ 9 ∷ 1 ∷ 3 ∷ 2 ∷ 1 ∷ []) first 1 ≡ 769) × (sheetIn (9 ∷ 9 ∷ 9 ∷ 9 ∷ 1 ∷ 3 ∷ 2 ∷ 1 ∷ []) second 1 ≡ 258)
 unfolding twoAt
 a-sheet = (refl, refl)

@@ -6,7 +6,8 @@ pub mod Faults
 pub mod Stores
 pub mod WeightRange
 pub mod WeightKept
--- a theorem that no other crate cites, for a reader
+-- theorems that no other crate cites, for a reader
 pub mod EitherOrder
+pub mod NoOther
 -- what only the proofs of this crate use
 mod WeightsIn

@@ -4,6 +4,7 @@ use mathlib.Core.Path.{_≡_, refl}
 use mathlib.Core.Bool.{true, false}
 use mathlib.Core.List.{List, [], _∷_, map}
 use Prim.Native.Nat.{ℕ, suc}
+use lib.ListN.{length}
 use Rattle.drawing.specs.Choice.{pick}
 use Rattle.drawing.specs.Tabulated.{tabulated}
 use Rattle.drawing.specs.Table.{objectKind, objectTable, allowed, tableWeight}
@@ -131,7 +132,12 @@ samples =
     ∷ ofConstraint 0 (stating 16 (ofKind 2 0 0)) 8
     ∷ ofConstraint 0 (stating 16 (ofKind 2 0 1)) 6
     ∷ ofConstraint 0 (stating 16 (ofKind 1 0 1)) 7
+    -- an unknown constraint kind is 6
+    ∷ ofConstraint 0 (ofKind 99 0 1) 6
     ∷ []
+
+pub as-many : length samples ≡ 21
+as-many = refl
 
 pub judged-as-said : map (λ (x : Judged). x .fault) samples ≡ map (λ (x : Judged). x .said) samples
 unfolding objectFault constraintFault objectKind tableWeight allowed pick

@@ -12,7 +12,7 @@ use Rattle.density.specs.Net.{Net, Set, Side, first, second}
 use Rattle.density.specs.Density.{takenBy, free, density, Dense, NoneDense}
 use Rattle.density.specs.Top.{Reaches, Top, AnswerSet}
 use Rattle.density.specs.Sheet.{Sheet, gives, received, Sound, total, given, remainder, claim}
-use Rattle.density.specs.Example.{setOf, Correct, resultOf}
+use Rattle.density.specs.Example.{noneAt, denseAt, setOf, Correct, resultOf}
 use Rattle.density.proofs.OneAnswer.{answer-top, tops-agree, none-no-set, no-set-none-dense}
 use Rattle.density.proofs.Tests.{implies, implied}
 use Rattle.density.proofs.EveryNumber.{below-gives}
@@ -24,7 +24,7 @@ use Rattle.drawing.specs.Table.{objectTable, tableWeight, allowed}
 use Rattle.drawing.specs.Weight.{inForce, objectWeight, constraintWeight}
 use Rattle.drawing.specs.Samples.{distance}
 use Rattle.net.specs.Weighed.{weighed}
-use Rattle.lessons.specs.Small.{Line, example, points, minus, objectsD, own, B, C, I, J, L}
+use Rattle.lessons.specs.Small.{Line, example, points, minus, has, each, own, constraintsD, objectsD, B, C, I, J, L}
 use Rattle.lessons.proofs.Table.{table-correct}
 
 -- a density above the result is not the top density
@@ -80,6 +80,20 @@ pub C-is-not-dense : NoneDense (weighed (C .drawing)) (minus 3)
 C-is-not-dense =
     no-set-none-dense (weighed (C .drawing)) (table-correct 2 (lit< tt) .proper) (minus 3) .0
     (none-no-set (weighed (C .drawing)) (table-correct 2 (lit< tt) .proper) (minus 3) .0 (table-correct 2 (lit< tt) .said-so 0 (lit< tt)))
+
+-- Any dense answers the lowest-numbered constraint above K, and not the densest: in 0-4, then D, at -4 it is constraint 0 with -3, although
+-- the others have -2.
+abbrev looseFirst : Line
+looseFirst =
+    record {
+      drawing = points 5 (distance 0 4 ∷ constraintsD);
+      results = has (minus 3) (0 ∷ 4 ∷ []) ∷ each 6 (minus 2) objectsD;
+      said = denseAt (minus 4) 0 ∷ denseAt (minus 3) 1 ∷ noneAt (minus 2) ∷ [];
+    }
+
+pub lowest-not-densest : Correct (example looseFirst)
+unfolding density takenBy free sum weighed objectWeight constraintWeight inForce objectTable tableWeight allowed pick
+lowest-not-densest = passed-correct (example looseFirst) tt
 
 -- "Taking the first set in which shares get stuck as the top one." In 0-1, 2-3, 2-4, 0-2 the two shares of 2-3 and 2-4 can both be put at
 -- object 2. Then nothing more can be given: 0-2 alone has weight left besides 0-1, and both its ends are full. The sheet is sound for

@@ -14,7 +14,8 @@ use Rattle.drawing.specs.Table.{tableWeight, allowed}
 use Rattle.drawing.specs.Weight.{inForce, constraintWeight}
 use Rattle.drawing.specs.Samples.{distance, stating}
 use Rattle.net.specs.Weighed.{weighed}
-use Rattle.net.specs.Change.{Renumbered, Reordered, Exchanged, Joined, renumbered, reordered, exchanged, Changes, unchanged, made, Becomes}
+use Rattle.net.specs.Change.{Renumbered, Reordered, Exchanged, Joined, renumbered, reordered, exchanged, joined}
+use Rattle.net.specs.Change.{Changes, unchanged, made, undone, Becomes}
 use Rattle.lessons.specs.Small.{points, C, H}
 
 -- what holds of 0 holds below 1; with 1, below 2; with 2, below 3
@@ -92,6 +93,17 @@ H-joined =
       same-pair = two _ (inr (refl, refl)) (inr (refl, refl));
       summed = one _ refl;
     }
+
+-- H joined and taken apart again: either of its constraints becomes both
+pub H-changes : Changes (H .drawing) (H .drawing)
+unfolding weighed
+H-changes =
+    made (proper-passed (weighed (H .drawing)) tt) (joined H-joined)
+    (undone (proper-passed (weighed (H .drawing)) tt) (joined H-joined) unchanged)
+
+pub H-becomes : Becomes H-changes 0 0 × Becomes H-changes 0 1
+unfolding H-changes H-joined
+H-becomes = ((0, lit< tt, refl, refl), (1, lit< tt, refl, refl))
 
 -- C and its last form are a sequence of changes apart, and constraint 0 becomes constraint 2
 pub C-changes : Changes (C .drawing) exchangedC

@@ -180,6 +180,18 @@ becomes-some (undone ok c rest) e le =
     let (f, lf, b) = becomes-some rest g lg in
     (f, lf, (g, lg, into, b))
 
+-- and is what one becomes
+pub becomes-from : {d a : Drawing} (cs : Changes d a) (f : ℕ) → f < length (a .constraints)
+    → (e : ℕ) × (e < length (d .constraints)) × Becomes cs e f
+becomes-from unchanged f lf = (f, lf, refl)
+becomes-from (made ok c rest) f lf =
+    let (g, lg, b) = becomes-from rest f lf in
+    let (e, le, into) = turned-from c g lg in
+    (e, le, subst (λ (x : ℕ). Becomes rest x f) (sym into) b)
+becomes-from (undone ok c rest) f lf =
+    let (g, lg, b) = becomes-from rest f lf in
+    (turnsInto c g, turned-below c g lg, (g, lg, refl, b))
+
 -- the objects of the listings are matched as the changes number them
 module _ {d b : Drawing} (ok : Proper (weighed d)) where
   number-back : (c : Change d b) (v : ℕ) → change-listings ok c .from v ≡ oldNumber c v

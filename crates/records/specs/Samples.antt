@@ -2,12 +2,12 @@
 use mathlib.Core.Path.{_≡_, refl}
 use mathlib.Core.List.{List, [], _∷_, _++_, map}
 use Prim.Native.Nat.{ℕ, zero, suc}
-use lib.ListN.{replicate}
+use lib.ListN.{length, replicate}
 use Rattle.drawing.specs.Choice.{pick}
 use Rattle.drawing.specs.Table.{objectKind, allowed, tableWeight}
 use Rattle.drawing.specs.Entry.{Drawing, emptyDrawing}
 use Rattle.drawing.specs.Fault.{objectFault, constraintFault}
-use Rattle.drawing.specs.Samples.{aPoint, distance, stating}
+use Rattle.drawing.specs.Samples.{aPoint, ofKind, distance, stating}
 use Rattle.records.specs.Format.{twoAt, bodyLength, headFault, recordAt}
 use Rattle.records.specs.Read.{Reading, refused, accepted, behindFault, readFrom, read}
 
@@ -51,11 +51,19 @@ samples =
     (record { objects = aPoint ∷ aPoint ∷ []; constraints = stating 3 (distance 0 1) ∷ [] })
     -- "2 bytes: object kind, stated weight": a line that states 7
     ∷ isAccepted (2 ∷ 0 ∷ 1 ∷ 0 ∷ 2 ∷ 7 ∷ []) (record { objects = record { kind = 2; stated = 7 } ∷ []; constraints = [] })
+    -- "numbered from 0 in the order in which they are read": a point, that line, and an incidence of object 1 with object 0 that states 5
+    ∷ isAccepted (pointRecord ++ 2 ∷ 0 ∷ 1 ∷ 0 ∷ 2 ∷ 7 ∷ 6 ∷ 0 ∷ 2 ∷ 0 ∷ 1 ∷ 0 ∷ 0 ∷ 0 ∷ 4 ∷ 5 ∷ [])
+    (record { objects = aPoint ∷ record { kind = 2; stated = 7 } ∷ []; constraints = stating 5 (ofKind 4 1 0) ∷ [] })
     -- "head short (1), 2, 3, body short (1)": three bytes; with a whole head the kind, then the length, and only then whether the body is there
     ∷ isRefused (2 ∷ 0 ∷ 1 ∷ []) 1
     ∷ isRefused (255 ∷ 255 ∷ 9 ∷ 0 ∷ []) 2
     ∷ isRefused (3 ∷ 0 ∷ 1 ∷ 0 ∷ []) 3
     ∷ isRefused (2 ∷ 0 ∷ 1 ∷ 0 ∷ 1 ∷ []) 1
+    -- "record kind not 1 to 3", and the length of each kind
+    ∷ isRefused (0 ∷ 0 ∷ 0 ∷ 0 ∷ []) 2
+    ∷ isRefused (0 ∷ 0 ∷ 4 ∷ 0 ∷ []) 2
+    ∷ isRefused (7 ∷ 0 ∷ 2 ∷ 0 ∷ []) 3
+    ∷ isRefused (1 ∷ 0 ∷ 3 ∷ 0 ∷ []) 3
     -- "All numbers are little-endian", and each has its two bytes: a length of 2 + 256, a kind of 1 + 256, ends of 0 + 256 and 1 + 256
     ∷ isRefused (2 ∷ 1 ∷ 1 ∷ 0 ∷ 1 ∷ 0 ∷ []) 3
     ∷ isRefused (2 ∷ 0 ∷ 1 ∷ 1 ∷ 1 ∷ 0 ∷ []) 2
@@ -63,6 +71,8 @@ samples =
     ∷ isRefused (times 2 pointRecord ++ 6 ∷ 0 ∷ 2 ∷ 0 ∷ 0 ∷ 0 ∷ 1 ∷ 1 ∷ 1 ∷ 0 ∷ []) 8
     -- "Objects come first, then constraints": a point after a distance
     ∷ isRefused (times 2 pointRecord ++ distanceRecord 0 1 0 ++ pointRecord) 4
+    -- the same with a byte missing: "body short (1), 4"
+    ∷ isRefused (times 2 pointRecord ++ distanceRecord 0 1 0 ++ 2 ∷ 0 ∷ 1 ∷ 0 ∷ 1 ∷ []) 1
     -- "4, 5, 8, 6, 7": a constraint with a bad end, of an unknown kind and with a stated weight of 16
     ∷ isRefused (pointRecord ++ 6 ∷ 0 ∷ 2 ∷ 0 ∷ 0 ∷ 0 ∷ 1 ∷ 0 ∷ 99 ∷ 16 ∷ []) 8
     -- "the first faulty one decides": an object of an unknown kind, then a record of an unknown kind
@@ -74,6 +84,9 @@ samples =
     ∷ isAccepted (times 128 pointRecord) (record { objects = replicate 128 aPoint; constraints = [] })
     ∷ isRefused (times 129 pointRecord) 5
     ∷ []
+
+pub as-many : length samples ≡ 26
+as-many = refl
 
 pub read-as-said : map (λ (x : Sample). read (x .bytes)) samples ≡ map (λ (x : Sample). x .reading) samples
 unfolding read readFrom behindFault recordAt headFault twoAt bodyLength objectFault constraintFault objectKind tableWeight allowed pick
