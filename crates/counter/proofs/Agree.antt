@@ -3,7 +3,7 @@
 use mathlib.Core.Path.{_≡_, sym, _∙_, ap, subst}
 use mathlib.Core.Logic.{_⊎_, inl, inr}
 use mathlib.Core.List.{List}
-use Prim.Native.Nat.{ℕ, zero, suc, _*_}
+use Prim.Native.Nat.{ℕ, zero, suc}
 use lib.IntN.{ℤ}
 use lib.ListN.{length, drop}
 use lib.Signed.{clashℤ}
@@ -86,7 +86,7 @@ sizeOf o = record { code = o .code; long = length (o .bytes) }
 pub sheet-determines-size : (c room : ℕ) → Determines sizeOf (sheetFor c room)
 sheet-determines-size c room d o p x y = size x ∙ sym (size y)
   where
-    size : {o : Outcome} → SheetOf d c o → sizeOf o ≡ record { code = 0; long = 4 * length (d .constraints) }
+    size : {o : Outcome} → SheetOf d c o → sizeOf o ≡ record { code = 0; long = sheetSize (length (d .constraints)) }
     size z = ap sizeOf (z .is) ∙ ap (λ (n : ℕ). record { code = 0; long = n }) (z .long)
 
 -- how many constraints were read; none where the drawing was refused

@@ -1,7 +1,7 @@
 -- Renumbering, reordering and exchanging ends keep every weight in force, and joining keeps their sums; so the nets before and after are
 -- listings of one drawing, also by any sequence of changes, and what a constraint becomes corresponds to it. Assumes nothing.
 use mathlib.Core.Path.{_≡_, refl, sym, _∙_, ap, subst}
-use mathlib.Core.Logic.{_⊎_, inl, inr}
+use mathlib.Core.Logic.{inl, inr}
 use mathlib.Core.List.{List}
 use Prim.Native.Nat.{ℕ, _<_}
 use lib.ListN.{length, getD}
@@ -17,7 +17,7 @@ use Rattle.drawing.specs.Entry.{Drawing, noObject, objectAt, constraintAt, kind
 use Rattle.drawing.specs.Weight.{constraintWeight}
 use Rattle.drawing.proofs.WeightKept.{object-kept, constraint-kept, constraint-turned}
 use Rattle.net.specs.Weighed.{endOf, weightOf, weighed}
-use Rattle.net.specs.Change.{turned, Renumbered, Reordered, Exchanged, SamePair, Joined}
+use Rattle.net.specs.Change.{Renumbered, Reordered, EitherWay, Exchanged, SamePair, Joined}
 use Rattle.net.specs.Change.{Change, renumbered, reordered, exchanged, joined, turnsInto, newNumber, oldNumber}
 use Rattle.net.specs.Change.{Changes, unchanged, made, undone, Becomes, was}
 use Rattle.net.proofs.Within.{weight-there}
@@ -64,25 +64,26 @@ module _ (d b : Drawing) (objects : b .objects ≡ d .objects) where
   same-weight v h =
       object-same d b v v h (subst (λ (l : List Object). v < length l) (sym objects) h) (ap (λ (l : List Object). getD l v noObject) objects)
 
+  -- ends that are named alike are of the same kind
+  end-kind : (end : Constraint → ℕ) {x y : Constraint} → x ≡ y → kindOf b (end x) ≡ kindOf d (end y)
+  end-kind end {x} p = same-kind (end x) ∙ ap (λ (c : Constraint). kindOf d (end c)) p
+
   -- a constraint as it was, or with its ends exchanged, keeps its weight in force and is on the same pair
-  takes-kept : (e f : ℕ) → (constraintAt b f ≡ constraintAt d e) ⊎ (constraintAt b f ≡ turned (constraintAt d e))
-      → constraintWeight b f ≡ constraintWeight d e
+  takes-kept : (e f : ℕ) → EitherWay (constraintAt b f) (constraintAt d e) → constraintWeight b f ≡ constraintWeight d e
   takes-kept e f (inl p) =
       constraint-kept d b e f (ap (λ (c : Constraint). c .kind) p) (ap (λ (c : Constraint). c .stated) p)
-      (same-kind _ ∙ ap (λ (c : Constraint). kindOf d (c .first)) p) (same-kind _ ∙ ap (λ (c : Constraint). kindOf d (c .second)) p)
+      (end-kind (λ c. c .first) p) (end-kind (λ c. c .second) p)
   takes-kept e f (inr p) =
       constraint-turned d b e f (ap (λ (c : Constraint). c .kind) p) (ap (λ (c : Constraint). c .stated) p)
-      (same-kind _ ∙ ap (λ (c : Constraint). kindOf d (c .first)) p) (same-kind _ ∙ ap (λ (c : Constraint). kindOf d (c .second)) p)
+      (end-kind (λ c. c .first) p) (end-kind (λ c. c .second) p)
 
-  pair-kept : (e f : ℕ) → (constraintAt b f ≡ constraintAt d e) ⊎ (constraintAt b f ≡ turned (constraintAt d e))
-      → SamePair (constraintAt b f) (constraintAt d e)
+  pair-kept : (e f : ℕ) → EitherWay (constraintAt b f) (constraintAt d e) → SamePair (constraintAt b f) (constraintAt d e)
   pair-kept e f (inl p) = inl (ap (λ (c : Constraint). c .first) p, ap (λ (c : Constraint). c .second) p)
   pair-kept e f (inr p) = inr (ap (λ (c : Constraint). c .first) p, ap (λ (c : Constraint). c .second) p)
 
   -- each constraint of b is one of d, as it was or with its ends exchanged
   one-for-one : (to from : ℕ → ℕ) → Matching (length (d .constraints)) (length (b .constraints)) to from
-      → ((e : ℕ) → e < length (d .constraints) → (constraintAt b (to e) ≡ constraintAt d e) ⊎ (constraintAt b (to e) ≡ turned (constraintAt d e)))
-      → nets.Gathered (weighed d) (weighed b)
+      → ((e : ℕ) → e < length (d .constraints) → EitherWay (constraintAt b (to e)) (constraintAt d e)) → nets.Gathered (weighed d) (weighed b)
   unfolding weighed
   one-for-one to from matched same =
       record {

@@ -38,12 +38,15 @@ pub record Reordered (d b : Drawing) : Type 0 where
   pub matched : Matching (length (d .constraints)) (length (b .constraints)) to from
   pub same-constraint : (e : ℕ) → e < length (d .constraints) → constraintAt b (to e) ≡ constraintAt d e
 
+-- a constraint as it was, or with its ends exchanged
+abbrev pub EitherWay : Constraint → Constraint → Type 0
+EitherWay x y = (x ≡ y) ⊎ (x ≡ turned y)
+
 -- exchanging ends: any constraint may name its two ends the other way round
 pub record Exchanged (d b : Drawing) : Type 0 where
   pub same-objects : b .objects ≡ d .objects
   pub as-many : length (b .constraints) ≡ length (d .constraints)
-  pub either-way : (e : ℕ) → e < length (d .constraints)
-      → (constraintAt b e ≡ constraintAt d e) ⊎ (constraintAt b e ≡ turned (constraintAt d e))
+  pub either-way : (e : ℕ) → e < length (d .constraints) → EitherWay (constraintAt b e) (constraintAt d e)
 
 -- two constraints on one pair of objects, whichever end comes first
 abbrev pub SamePair : Constraint → Constraint → Type 0

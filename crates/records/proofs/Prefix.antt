@@ -16,7 +16,7 @@ use Rattle.drawing.specs.Fault.{objectFaultIn, constraintFaultIn}
 use Rattle.drawing.proofs.Choice.{row-bounds}
 use Rattle.drawing.proofs.Faults.{object-sound, constraint-sound}
 use Rattle.records.specs.Format.{byteAt, twoAt, bodyLength, recordKind, nextRecord, knownKind, headFault, bodyOf}
-use Rattle.records.specs.Format.{headSize, anObject, aConstraint, anEnd, Record, faulty, object, constraint, end, recordAt}
+use Rattle.records.specs.Format.{headSize, constraintBodySize, anObject, aConstraint, anEnd, Record, faulty, object, constraint, end, recordAt}
 use Rattle.records.specs.Read.{Reading, refused, accepted, unless, behindFault, readOn, readFrom, read}
 use Rattle.records.specs.Longest.{objectRecord, longestRecord, longestDrawing}
 use Rattle.records.proofs.EnoughTurns.{enough}
@@ -32,7 +32,7 @@ by-fault : (f : ℕ) {x y : Reading} → (f ≡ 0 → RefusedAlike x y) → Refu
 by-fault zero on = on refl
 by-fault (suc f) on = record { number = suc f; one = refl; other = refl }
 
-body-most : (kind : ℕ) → bodyLength kind ≤ 6
+body-most : (kind : ℕ) → bodyLength kind ≤ constraintBodySize
 unfolding bodyLength
 body-most kind = search row-bounds depth 9
 
