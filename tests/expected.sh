@@ -1,7 +1,8 @@
 #!/usr/bin/env bash
-# What the gate tries is what tests/expected.txt lists, a path a line, sorted: every must-fail edit, every file of tests/
-# and second/tests/, every example with what is stored of it, and what the report program is given and has to print. It
-# says which path is gone or not listed. With --write it writes the list anew. The last line is 'N passed, M failed'.
+# What the gate tries is what tests/expected.txt lists, a path a line, sorted: every must-fail edit, every script and C
+# program of tests/, every Rust file of second/tests/, every example with what is stored of it, and what the report
+# program is given and has to print. It says which path is gone or not listed. With --write it writes the list anew. The
+# last line is 'N passed, M failed'.
 # shellcheck source=tests/common.sh
 . "$(dirname "$0")/common.sh" || exit
 

@@ -9,7 +9,7 @@
 
 documents=(README.md docs/*.md)
 # Words that the documents explain and no crate declares: those of the two languages, and parts of paths.
-language='abbrev rt write declared ensures i32 in proofs pub requires specs u32 unfoldable use'
+language='abbrev refl rt tt write declared ensures i32 in proofs pub requires specs u32 unfoldable use'
 export LC_ALL=C
 
 # The text of a document: a line for each paragraph, heading, list item and row of a table. Blocks of code are left out:
