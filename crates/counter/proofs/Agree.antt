@@ -1,7 +1,7 @@
 -- Two outcomes that both fit a question agree: the questions determine the code and every byte written. The sheet is the one
 -- exception: two results agree in the code and in every byte behind the sheet, and where the code is not 0 in the whole buffer. Assumes nothing.
 use mathlib.Core.Path.{_≡_, sym, _∙_, ap, subst}
-use mathlib.Core.Logic.{_⊎_, inl, inr}
+use mathlib.Core.Logic.{inl, inr}
 use mathlib.Core.List.{List}
 use Prim.Native.Nat.{ℕ, zero, suc}
 use lib.IntN.{ℤ}
@@ -12,9 +12,10 @@ use Rattle.density.proofs.OneAnswer.{answers-agree, lowest-one}
 use Rattle.drawing.specs.Entry.{Drawing}
 use Rattle.records.specs.Read.{Reading, refused, accepted}
 use Rattle.net.specs.Weighed.{weighed}
-use Rattle.counter.specs.Outcome.{Outcome, says, answered, Question, Unless, Fits, over, Answers, Replies, askedFault}
+use Rattle.counter.specs.Outcome.{Outcome, answered, Question, Unless, Fits, over, Answers, Replies, askedFault}
 use Rattle.counter.specs.Question.{lookOver, oneConstraint, anyDense, sheetFor, check, BlockOf, SheetOf}
-use Rattle.counter.proofs.Outcomes.{said-or-answered}
+use Rattle.counter.proofs.Outcomes.{Came, drawing-refused, call-refused, answer-given, came, code-alone}
+use Rattle.counter.proofs.DemandOne.{sheet-besides, other-codes-write-nothing}
 use Rattle.counter.proofs.Blocks.{block-same}
 use lib.Seq.{drop-at}
 use Rattle.checker.specs.Sheet.{sheetSize}
@@ -94,34 +95,22 @@ abbrev pub constraintsRead : Reading → ℕ
 constraintsRead (refused n) = 0
 constraintsRead (accepted d) = length (d .constraints)
 
-module _ (c : ℕ) {x : Reading} {r : ℕ} {before after : List ℕ} (a : Answers (sheetFor c (length before)) x r before after) where
-  -- an outcome with a code alone leaves every byte as it was
-  left-alone : (n : ℕ) → a .outcome ≡ says n → after ≡ before
-  left-alone n e = a .after-is ∙ ap (λ (o : Outcome). over (o .bytes) before) e
+-- every byte behind the sheet is as it was
+pub sheet-behind : (c : ℕ) {x : Reading} {r : ℕ} {before after : List ℕ} → Answers (sheetFor c (length before)) x r before after
+    → drop (sheetSize (constraintsRead x)) after ≡ drop (sheetSize (constraintsRead x)) before
+sheet-behind c {x} {before = before} {after = after} a = go (came (sheetFor c (length before)) x (a .outcome) (a .fits))
+  where
+    Behind : Reading → Type 0
+    Behind y = drop (sheetSize (constraintsRead y)) after ≡ drop (sheetSize (constraintsRead y)) before
 
-  cases : ((n : ℕ) × (a .outcome ≡ says n)) ⊎ ((d : Drawing) × (x ≡ accepted d) × SheetOf d c (a .outcome))
-  cases = said-or-answered (sheetFor c (length before)) x (a .outcome) (a .fits)
-
-  -- every byte behind the sheet is as it was
-  pub sheet-behind : drop (sheetSize (constraintsRead x)) after ≡ drop (sheetSize (constraintsRead x)) before
-  sheet-behind = go cases
-    where
-      go : ((n : ℕ) × (a .outcome ≡ says n)) ⊎ ((d : Drawing) × (x ≡ accepted d) × SheetOf d c (a .outcome))
-          → drop (sheetSize (constraintsRead x)) after ≡ drop (sheetSize (constraintsRead x)) before
-      go (inl (n, e)) = ap (drop (sheetSize (constraintsRead x))) (left-alone n e)
-      go (inr (d, is, y)) =
-          subst (λ (z : Reading). drop (sheetSize (constraintsRead z)) after ≡ drop (sheetSize (constraintsRead z)) before) (sym is)
-          (ap (drop (sheetSize (length (d .constraints)))) (a .after-is ∙ ap (λ (o : Outcome). over (o .bytes) before) (y .is))
-          ∙ drop-at (y .bytes) (drop (length (y .bytes)) before) (sheetSize (length (d .constraints))) (y .long)
-          ∙ ap (λ (k : ℕ). drop k before) (y .long))
-
-  -- and every byte is, where the code is not 0
-  pub sheet-unwritten : (r ≡ 0 → ⊥) → after ≡ before
-  sheet-unwritten bad = go cases
-    where
-      go : ((n : ℕ) × (a .outcome ≡ says n)) ⊎ ((d : Drawing) × (x ≡ accepted d) × SheetOf d c (a .outcome)) → after ≡ before
-      go (inl (n, e)) = left-alone n e
-      go (inr (d, is, y)) = absurd (bad (a .result-is ∙ ap (λ (o : Outcome). o .code) (y .is)))
+    go : Came (sheetFor c (length before)) x (a .outcome) → Behind x
+    go (drawing-refused n is e) = ap (drop (sheetSize (constraintsRead x))) (code-alone a n e .1)
+    go (call-refused d n is f e) = ap (drop (sheetSize (constraintsRead x))) (code-alone a (suc n) e .1)
+    go (answer-given d is f y) =
+        subst Behind (sym is)
+        (ap (drop (sheetSize (length (d .constraints)))) (a .after-is ∙ ap (λ (o : Outcome). over (o .bytes) before) (y .is))
+        ∙ drop-at (y .bytes) (drop (length (y .bytes)) before) (sheetSize (length (d .constraints))) (y .long)
+        ∙ ap (λ (k : ℕ). drop k before) (y .long))
 
 -- ---- two results of a call agree
 
@@ -152,11 +141,14 @@ pub sheet-agrees : (c : ℕ) {x : Reading} {r₁ r₂ : ℕ} {before after₁ af
 sheet-agrees c {x} {r₁} {r₂} {before} a b =
     record {
       same-code = same;
-      unwritten = λ bad. (sheet-unwritten c a bad, sheet-unwritten c b (λ z. bad (same ∙ z)));
+      unwritten = λ bad. (unwritten a bad, unwritten b (λ z. bad (same ∙ z)));
       behind-first = sheet-behind c a;
       behind-second = sheet-behind c b;
     }
   where
+    unwritten : {r : ℕ} {after : List ℕ} → Answers (sheetFor c (length before)) x r before after → (r ≡ 0 → ⊥) → after ≡ before
+    unwritten y = other-codes-write-nothing (sheetFor c (length before)) y 0 (sheet-besides c (length before))
+
     same : r₁ ≡ r₂
     same =
         a .result-is

@@ -34,16 +34,6 @@ outcome-given : (q : Question) (d : Drawing) → askedFault q d ≡ 0 → (o : O
 outcome-given q d e o x before after w =
     record { outcome = o; fits = subst (λ (f : ℕ). Unless f o (q .answer d o)) (sym e) x; result-is = refl; after-is = w }
 
--- an outcome that fits says a number, or answers the question about a drawing that was accepted
-pub said-or-answered : (q : Question) (x : Reading) (o : Outcome) → Fits q x o
-    → ((n : ℕ) × (o ≡ says n)) ⊎ ((d : Drawing) × (x ≡ accepted d) × q .answer d o)
-said-or-answered q (refused n) o e = inl (n, e)
-said-or-answered q (accepted d) o u = asked (askedFault q d) u
-  where
-    asked : (f : ℕ) → Unless f o (q .answer d o) → ((n : ℕ) × (o ≡ says n)) ⊎ ((b : Drawing) × (accepted d ≡ accepted b) × q .answer b o)
-    asked zero y = inr (d, refl, y)
-    asked (suc f) e = inl (suc f, e)
-
 -- ---- the same by what was read
 
 -- r is the first fault of the call
@@ -76,6 +66,28 @@ module _ {q : Question} {x : Reading} {code n m : ℕ} (stands : CountsFor x cod
     where
       is : AcceptedAs x n m
       is = stands .accepted-as (first .clean z)
+
+-- ---- from the statement of an entry
+
+-- what an outcome that fits is: the drawing's refusal, the fault of what is asked, or an answer
+pub data Came (q : Question) (x : Reading) (o : Outcome) : Type 0 where
+  drawing-refused : (n : ℕ) → x ≡ refused n → o ≡ says n → Came q x o
+  call-refused : (d : Drawing) (n : ℕ) → x ≡ accepted d → askedFault q d ≡ suc n → o ≡ says (suc n) → Came q x o
+  answer-given : (d : Drawing) → x ≡ accepted d → askedFault q d ≡ 0 → q .answer d o → Came q x o
+
+pub came : (q : Question) (x : Reading) (o : Outcome) → Fits q x o → Came q x o
+came q (refused n) o u = drawing-refused n refl u
+came q (accepted d) o u = asked (askedFault q d) refl u
+  where
+    asked : (f : ℕ) → askedFault q d ≡ f → Unless f o (q .answer d o) → Came q (accepted d) o
+    asked zero e u = answer-given d refl e u
+    asked (suc f) e u = call-refused d f refl e u
+
+-- an outcome with a code alone: the result is the code, and every byte is as it was
+pub code-alone : {q : Question} {x : Reading} {r : ℕ} {before after : List ℕ} (a : Answers q x r before after) (n : ℕ) → a .outcome ≡ says n
+    → (r ≡ n) × (after ≡ before)
+code-alone {before = before} a n e =
+    (a .result-is ∙ ap (λ (o : Outcome). o .code) e, a .after-is ∙ ap (λ (o : Outcome). over (o .bytes) before) e)
 
 -- ---- from a call about an accepted drawing that was not refused
 

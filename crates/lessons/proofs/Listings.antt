@@ -94,7 +94,7 @@ H-joined =
       summed = one _ refl;
     }
 
--- H joined and taken apart again: either of its constraints becomes both
+-- H joined and taken apart again: constraint 0 becomes both
 pub H-changes : Changes (H .drawing) (H .drawing)
 unfolding weighed
 H-changes =
