@@ -1,5 +1,7 @@
 // Arrays that hold a net: reading a number, and the two ends of a constraint, which stand side by side. Arrays have room for the limits; n
 // objects and m constraints are in use.
+#![tactic(auto)]
+
 ghost use Rattle.std.specs.Prelude.{◌≡◌, ◌+◌, ◌*◌, ◌<◌};
 ghost use Rattle.limits.specs.Limits.{most_constraints, most_ends};
 ghost use Rattle.arrays.specs.At.{at};

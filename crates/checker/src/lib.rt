@@ -1,4 +1,6 @@
 // The check of a sheet: whether it is sound for c, and its claim the number claimed.
+#![tactic(auto)]
+
 ghost use Rattle.std.specs.Prelude.{◌≡◌, ◌+◌, ◌*◌, ◌<◌, ◌≤◌, set};
 ghost use Rattle.limits.specs.Limits.{most_objects};
 ghost use Rattle.arrays.specs.At.{at};

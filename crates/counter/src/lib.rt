@@ -1,4 +1,6 @@
 // The counter: a net counted, the faults of a call, and the answer block and the sheet as bytes.
+#![tactic(auto)]
+
 pub mod block;
 pub mod count;
 pub mod fault;

@@ -1,4 +1,6 @@
 // A drawing as values: objects and constraints as read, their kinds, what is wrong with one, and the weights in force.
+#![tactic(auto)]
+
 pub mod blank;
 pub mod fault;
 pub mod table;

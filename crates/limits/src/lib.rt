@@ -1,4 +1,6 @@
 // The limits of 01, 'What it covers', as the code has them: the largest drawing and the largest weight.
+#![tactic(auto)]
+
 pub const OBJECTS: usize = 128;
 
 pub const CONSTRAINTS: usize = 512;

@@ -1,4 +1,6 @@
 // The one door from a drawing's bytes to its net: read, or read and weighed.
+#![tactic(auto)]
+
 ghost use Rattle.records.specs.Read.{read};
 ghost use Rattle.net.specs.NetFor.{CountsFor, NetFor};
 

@@ -1,5 +1,7 @@
 // The report: reads a drawing on standard input and prints its counts, the top density and the members of each constraint's answer set,
 // and whether any set is dense at K = -3; or the number of its refusal. What is printed is held to stored output, and not proved.
+#![tactic(auto)]
+
 ghost use Rattle.std.specs.Prelude.{◌≤◌, ◌<◌};
 ghost use Rattle.limits.specs.Limits.{most_objects};
 ghost use Rattle.net.specs.NetFor.{Countable};

@@ -1,4 +1,6 @@
 // Routes: the search for one, along which a share moves, or the marks that no route leaves; and the chains that it follows.
 // Over weights and ends alone. Arrays have room for the limits; n objects and m constraints are in use.
+#![tactic(auto)]
+
 pub mod chains;
 pub mod search;
