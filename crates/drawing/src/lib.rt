@@ -16,14 +16,14 @@ use limits::{CONSTRAINTS, ENDS, OBJECTS};
 use weight::{weigh_constraints, weigh_objects};
 
 // An object as read.
-#[derive(Drop)]
+#[derive(Clone, Copy)]
 pub struct Object {
     pub kind: u8,
     pub stated: u8,
 }
 
 // A constraint as read. The two bytes stand first, so that where either may stand, each has its bytes at the same place.
-#[derive(Drop)]
+#[derive(Clone, Copy)]
 pub struct Constraint {
     pub kind: u8,
     pub stated: u8,
