@@ -10,7 +10,7 @@ use arrays::{place_at, two_bytes};
 use limits::{CONSTRAINTS, ENDS, OBJECTS};
 
 // The set of marked objects: a mark for each object, 0 for none.
-#[derive(Drop)]
+#[derive(Clone, Copy)]
 pub struct Marks {
     pub objects: [u8; OBJECTS],
 }
