@@ -15,7 +15,7 @@ use routes::chains::chain;
 use routes::search::Marks;
 
 // What has been given: the chains, the shares by place, the room of each object, and the marks of the stuck.
-#[derive(Drop)]
+#[derive(Clone, Copy)]
 pub struct Distribution {
     pub head: [u16; OBJECTS],
     pub next: [u16; ENDS],
