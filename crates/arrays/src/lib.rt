@@ -9,7 +9,7 @@ ghost use Rattle.arrays.specs.At.{at};
 use limits::ENDS;
 
 // The two objects of a constraint.
-#[derive(Drop)]
+#[derive(Clone, Copy)]
 pub struct Ends {
     pub first: usize,
     pub second: usize,

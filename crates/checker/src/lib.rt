@@ -18,7 +18,7 @@ const SHARE: usize = 2;
 
 // What the constraints of a sheet come to: whether each one's two shares fit its weight, and if so the sum of the weights, the sum of the
 // shares, and what each object receives.
-#[derive(Drop)]
+#[derive(Clone, Copy)]
 pub struct Tally {
     pub fits: bool,
     pub total: usize,

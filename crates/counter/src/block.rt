@@ -22,7 +22,7 @@ pub const BLOCK: usize = TWO_NUMBERS + SET;
 const NONE: u32 = 32;
 
 // A block as values: a constraint, its density, which is above less below, and its set, which is marked.
-#[derive(Drop)]
+#[derive(Clone, Copy)]
 pub struct Block {
     pub constraint: usize,
     pub above: usize,
@@ -31,7 +31,7 @@ pub struct Block {
 }
 
 // A block, if one was found.
-#[derive(Drop)]
+#[derive(Clone, Copy)]
 pub struct Finding {
     pub found: bool,
     pub block: Block,

@@ -44,7 +44,7 @@ pub fn kind_of(kinds: &[u8; OBJECTS], end: u16) -> u8
 }
 
 // The weights in force, zero past the counts.
-#[derive(Drop)]
+#[derive(Clone, Copy)]
 pub struct Weights {
     pub objects: [u8; OBJECTS],
     pub constraints: [u8; CONSTRAINTS],

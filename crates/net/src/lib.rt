@@ -12,7 +12,7 @@ use records::reader::fill;
 
 // What was read of a drawing: the number of its refusal, 0 if accepted, and its net. Constraint e has its ends at 2e and 2e + 1; the
 // weights of the objects and what each constraint takes are those in force.
-#[derive(Drop)]
+#[derive(Clone, Copy)]
 pub struct NetArrays {
     pub code: u32,
     pub objects: usize,

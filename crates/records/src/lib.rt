@@ -12,7 +12,7 @@ use limits::{CONSTRAINTS, ENDS, OBJECTS};
 use reader::fill;
 
 // What stands at a position of the bytes: a fault of the record's head or its cut body, or the record.
-#[derive(Drop)]
+#[derive(Clone, Copy)]
 pub enum Found {
     Faulty(u32),
     Object(Object),
@@ -21,7 +21,7 @@ pub enum Found {
 }
 
 // How reading ended: the number of the refusal, 0 if accepted, and the entries read so far.
-#[derive(Drop)]
+#[derive(Clone, Copy)]
 pub struct Counts {
     pub code: u32,
     pub objects: usize,
@@ -29,7 +29,7 @@ pub struct Counts {
 }
 
 // A drawing that was read: the number of the refusal, 0 if accepted, and the entries. Constraint e has its ends at 2e and 2e + 1.
-#[derive(Drop)]
+#[derive(Clone, Copy)]
 pub struct Entries {
     pub code: u32,
     pub objects: usize,

@@ -5,7 +5,7 @@ use arrays::place_at;
 use limits::{ENDS, OBJECTS};
 
 // One more than the last place of each object, and one more than the place before of the same object; 0 for none.
-#[derive(Drop)]
+#[derive(Clone, Copy)]
 pub struct Chains {
     pub head: [u16; OBJECTS],
     pub next: [u16; ENDS],

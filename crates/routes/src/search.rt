@@ -16,7 +16,7 @@ pub struct Marks {
 }
 
 // What a search answers: whether a route was found, how many objects and constraints it marked, and the marked objects.
-#[derive(Drop)]
+#[derive(Clone, Copy)]
 pub struct Route {
     pub found: bool,
     pub count: usize,

@@ -26,7 +26,7 @@ pub struct Distribution {
 }
 
 // The answer set, the sheet that shows its density, and the density, which is above less below.
-#[derive(Drop)]
+#[derive(Clone, Copy)]
 pub struct Solution {
     pub above: usize,
     pub below: usize,
