@@ -1,8 +1,5 @@
 -- The report reads 6,000 bytes at most. 01: "that prefix gives every longer input its refusal". Assumes nothing.
-use mathlib.Core.List.{List}
-use Prim.Native.Nat.{ℕ, ◌<◌}
-use lib.Dec.{lit≤}
-use lib.ListN.{length, take}
+use Rattle.std.proofs.Common.{ℕ, ◌<◌, List, length, take, lit≤}
 use Rattle.records.specs.Read.{read}
 use Rattle.records.proofs.Prefix.{RefusedAlike, prefix_refused}
 

@@ -2,46 +2,55 @@
 // and whether any set is dense at K = -3; or the number of its refusal. What is printed is held to stored output, and not proved.
 #![tactic(auto)]
 
-ghost use Rattle.std.specs.Prelude.{◌≤◌, ◌<◌};
+ghost use Rattle.std.specs.Prelude.{◌≤◌};
 ghost use Rattle.limits.specs.Limits.{most_objects};
 ghost use Rattle.net.specs.NetFor.{Countable};
 
 use counter::range::is_above;
-use libc::STDOUT_FILENO;
 use limits::OBJECTS;
 use net::{NetArrays, net_of};
 use settling::answer::{answer, base};
+use std::alloc::{AllocError, Global};
+use std::io;
+use std::io::Read;
 
 // 01: "6,000 bytes at most; that prefix gives every longer input its refusal": `longer_input_refused`, proofs/Input.antt.
-const INPUT: usize = 6000;
+const INPUT: u64 = 6000;
 
 // K = -3, as K + 64.
 const OVERCONSTRAINED: usize = 61;
 
-fn main() {
-    let mut input = [0u8; INPUT];
-    let got = io::read_full(0, &mut input);
-    report(&input[..got]);
+fn main(rt: HostRuntime) -> io::Result<()> {
+    let alloc = rt.alloc();
+    let mut input = Vec::new(alloc);
+    rt.reader().take(INPUT).read_to_end(&mut input)?;
+    let text = report(alloc, &input)?;
+    print!(rt; "{text}")
 }
 
-fn report(drawing: &[u8]) {
+// The text of the report.
+fn report(alloc: Global, drawing: &[u8]) -> Result<String, AllocError> {
+    let mut text = String::new(alloc);
     let net = net_of(drawing);
     if net.code != 0 {
-        say(b"refused ");
-        say_number(net.code as usize);
-        say(b"\n");
-        return;
+        say(&mut text, "refused ")?;
+        say_number(&mut text, net.code as usize)?;
+        say(&mut text, "\n")?;
+        return Ok(text);
     }
-    say(b"objects ");
-    say_number(net.objects);
-    say(b" constraints ");
-    say_number(net.constraints);
-    say(b"\n");
-    say_last(net.constraints, say_lines(net));
+    say(&mut text, "objects ")?;
+    say_number(&mut text, net.objects)?;
+    say(&mut text, " constraints ")?;
+    say_number(&mut text, net.constraints)?;
+    say(&mut text, "\n")?;
+    let m = net.constraints;
+    let lowest = say_lines(&mut text, net)?;
+    say_last(&mut text, m, lowest)?;
+    Ok(text)
 }
 
 // A line for each constraint. Answers the lowest-numbered one above K, or the number of constraints.
-fn say_lines(net: NetArrays) -> usize
+fn say_lines(text: &mut String, net: NetArrays) -> Result<usize, AllocError>
     requires { Countable net }
 {
     let n = net.objects;
@@ -61,55 +70,56 @@ fn say_lines(net: NetArrays) -> usize
         }
         let marks = top.marks;
         let set = marks.objects;
-        say_number(c);
-        say(b" ");
-        say_density(top.above, top.below);
-        say_members(n, &set);
-        say(b"\n");
+        say_number(text, c)?;
+        say(text, " ")?;
+        say_density(text, top.above, top.below)?;
+        say_members(text, n, &set)?;
+        say(text, "\n")?;
         c += 1;
     }
-    lowest
+    Ok(lowest)
 }
 
 // A density, above less below.
-fn say_density(above: usize, below: usize) {
+fn say_density(text: &mut String, above: usize, below: usize) -> Result<(), AllocError> {
     if above < below {
-        say(b"-");
-        say_number(below - above);
+        say(text, "-")?;
+        say_number(text, below - above)
     } else {
-        say_number(above - below);
+        say_number(text, above - below)
     }
 }
 
 // The members of a set, ascending.
-fn say_members(n: usize, set: &[u8; OBJECTS])
+fn say_members(text: &mut String, n: usize, set: &[u8; OBJECTS]) -> Result<(), AllocError>
     requires { n ≤ most_objects }
 {
     let mut v: usize = 0;
     while v < n {
         if set[v] > 0 {
-            say(b" ");
-            say_number(v);
+            say(text, " ")?;
+            say_number(text, v)?;
         }
         v += 1;
     }
+    Ok(())
 }
 
-fn say_last(m: usize, lowest: usize) {
-    say(b"K -3 ");
+fn say_last(text: &mut String, m: usize, lowest: usize) -> Result<(), AllocError> {
+    say(text, "K -3 ")?;
     if lowest == m {
-        say(b"none");
+        say(text, "none")?;
     } else {
-        say(b"dense ");
-        say_number(lowest);
+        say(text, "dense ")?;
+        say_number(text, lowest)?;
     }
-    say(b"\n");
+    say(text, "\n")
 }
 
-fn say(text: &[u8]) {
-    io::write_all(STDOUT_FILENO, text);
+fn say(text: &mut String, words: &str) -> Result<(), AllocError> {
+    text.push_str(words)
 }
 
-fn say_number(n: usize) {
-    io::print_decimal(STDOUT_FILENO, n as u64);
+fn say_number(text: &mut String, n: usize) -> Result<(), AllocError> {
+    write!(text, "{n}")
 }
