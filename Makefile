@@ -1,6 +1,6 @@
 # Builds the C library and the report program, and puts the library where a host's build finds it.
 #
-#   make                    target/staticlib/libbrentivex.a and target/bin/report
+#   make                    crates/brentivex/out/libbrentivex.a and crates/report/out/report
 #   make install            the library, the header and the pkg-config file, under PREFIX in DESTDIR
 #   make test               the gate
 #   make report             the report on DRAWING
@@ -9,21 +9,23 @@ PREFIX ?= /usr/local
 DESTDIR ?=
 DRAWING = examples/bracket.drawing
 
-library = target/staticlib/libbrentivex.a
-sources = crates.txt $(shell find crates -type f)
+library = crates/brentivex/out/libbrentivex.a
+program = crates/report/out/report
+sources = crates.txt $(shell find crates -name out -prune -o -type f -print)
 root = $(DESTDIR)$(PREFIX)
 
 .PHONY: all install test report
-# Every run of rt writes to target/, so no two at once.
+# Both builds prove the crates below them first, so no two at once.
 .NOTPARALLEL:
 
-all: $(library) target/bin/report
+all: $(library) $(program)
 
 $(library): $(sources)
-	rt staticlib brentivex
+	cd crates/brentivex && rt lib
 
-target/bin/report: $(sources)
-	rt check report
+# rt builds a program where it runs it.
+$(program): $(sources)
+	cd crates/report && rt run < stdin > /dev/null && touch out/report
 
 install: $(library)
 	install -d "$(root)/lib/pkgconfig" "$(root)/include"
@@ -35,5 +37,5 @@ install: $(library)
 test:
 	.ci/run
 
-report: target/bin/report
-	target/bin/report < $(DRAWING)
+report: $(program)
+	$(program) < $(DRAWING)

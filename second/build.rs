@@ -1,9 +1,9 @@
-//! Links the proved library into the tests and the benchmark. `rt staticlib brentivex` writes the archive.
+//! Links the proved library into the tests and the benchmark. `rt lib`, in `crates/brentivex`, writes the archive.
 use std::{env, path::Path};
 
 fn main() {
     let here = env::var("CARGO_MANIFEST_DIR").expect("cargo sets it");
-    let archive = Path::new(&here).join("../target/staticlib/libbrentivex.a");
+    let archive = Path::new(&here).join("../crates/brentivex/out/libbrentivex.a");
     println!("cargo:rerun-if-changed={}", archive.display());
     println!("cargo:rustc-link-arg-tests={}", archive.display());
     println!("cargo:rustc-link-arg-bin=bench={}", archive.display());

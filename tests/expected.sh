@@ -11,9 +11,10 @@ export LC_ALL=C
 
 # The paths that are there.
 there() {
-    find crates second/tests tests examples -path 'crates/*/must-fail/*.edit' -o -path 'second/tests/*.rs' \
-        -o -path 'tests/*.sh' -o -path 'tests/*.c' -o -path 'examples/*.drawing' -o -path 'examples/*.report' \
-        -o -path 'examples/*.txt' -o -path examples/host.c -o -path 'crates/*/std*' | sort
+    find crates second/tests tests examples -path 'crates/*/out' -prune -o '(' -path 'crates/*/must-fail/*.edit' \
+        -o -path 'second/tests/*.rs' -o -path 'tests/*.sh' -o -path 'tests/*.c' -o -path 'examples/*.drawing' \
+        -o -path 'examples/*.report' -o -path 'examples/*.txt' -o -path examples/host.c -o -path 'crates/*/std*' \
+        ')' -print | sort
 }
 
 as_listed() {

@@ -58,27 +58,36 @@ placed() {
         }' | sort -u
 }
 
+# The files of the crates with an ending, without what rt makes.
+with_ending() {
+    find crates -name out -prune -o -name "*.$1" -print
+}
+
 # What each file of the crates declares, FILE NAME: NAME.. : TYPE, data NAME, record NAME of definitions and laws;
 # functions, types, constants, fields and cases of the code; a must-fail edit its own name.
 declared() {
     local file modifiers='((unfoldable|abbrev|pub) )*' name='[A-Za-z][^ (]*'
-    find crates -name '*.antt' | while read -r file; do
+    with_ending antt | while read -r file; do
         sed -nE -e "s/^ *$modifiers(data|record) ([^ ]+).*/\4/p" \
             -e "/^ *let /!s/^ *$modifiers($name( $name)*)( \{[^}]*\})? :( .*)?$/\3/p" "$file" | tr -s ' ' '\n' |
             sed "s|^|$file |"
     done
-    find crates -name '*.rt' | while read -r file; do
+    with_ending rt | while read -r file; do
         sed -nE -e 's/^(.* )?(fn|struct|enum|const) (\w+).*/\3/p' \
             -e 's/^ *(pub )?(\w+)(: .*|\(.*\))?,$/\2/p' "$file" | sed "s|^|$file |"
     done
-    find crates -name '*.edit' | sed -E 's|.*/([^/]+)\.edit$|& \1|'
+    with_ending edit | sed -E 's|.*/([^/]+)\.edit$|& \1|'
 }
 
-# What the documents may name besides: the modules and the crates, and what the crates use of the libraries.
+# What the documents may name besides: the modules and the crates, and what the crates use of the libraries, which are
+# none of these crates.
 besides() {
-    find crates -name '*.rt' -exec basename -s .rt {} +
+    local own
+    own=$(cd crates && printf '%s|' *)
+    with_ending rt | xargs basename -s .rt
     ls crates
-    find crates -name '*.antt' -exec sed -nE 's/^use [^R][^{]*\{(.*)\}$/\1/p' {} + | tr -s ', ' '\n'
+    { with_ending antt && with_ending rt; } | xargs sed -nE \
+        "/^ *(ghost )?use Rattle\.(${own%|})\./!s/^ *(ghost )?use [^{:]*\{(.*)\};?\$/\2/p" | tr -s ', ' '\n'
 }
 
 # A path of the repository, or the end of one from a folder on, with or without .antt or .edit.
@@ -145,8 +154,8 @@ all_there() {
     [ -s "$work/words" ] && [ "$missing" -eq 0 ]
 }
 
-find . -name .git -prune -o -path ./target -prune -o -print > "$work/paths"
-find crates -type f > "$work/files"
+find . -name .git -prune -o -path ./target -prune -o -path './crates/*/out' -prune -o -print > "$work/paths"
+find crates -name out -prune -o -type f -print > "$work/files"
 declared | sort -u > "$work/declared"
 { sed 's/^[^ ]* //' "$work/declared" && besides; } | sort -u > "$work/names"
 for document in "${documents[@]}"; do
