@@ -1,15 +1,17 @@
 #!/usr/bin/env bash
 # Every name in backticks in the documents is one that the crates declare, and every path there is that of a file or a
-# folder. A name is one word, or words joined by ::, the last of which is declared in the module that the others name. A
-# path may start at a crate and leave out .antt. Names right before a path (`name`, `path`; `name` and `name` in `path`;
-# `name` (`path`), and so on) stand in its file, and so do those in the first cell of a row whose last is paths alone.
-# Each document counts as one test, and what is missing has a line of its own. The last line is 'N passed, M failed'.
+# folder. A name is one word; or words joined by ::, the last of which is declared in the module that the others name; or
+# a field behind a dot; or a file or type as the crates import it, as in Rattle.density.specs.Net. A path may start at a
+# crate and leave out .antt. Names right before a path (`name`, `path`; `name` and `name` in `path`; `name` (`path`), and
+# so on) stand in its file, and so do those in the first cell of a row whose last is paths alone. Each document counts as
+# one test, and what is missing has a line of its own. The last line is 'N passed, M failed'.
 # shellcheck source=tests/common.sh
 . "$(dirname "$0")/common.sh" || exit
 
 documents=(README.md docs/*.md)
 # Words that the documents explain and no crate declares: those of the two languages, and parts of paths.
-language='abbrev refl rt tt write declared ensures i32 in proofs pub requires specs u32 unfoldable use'
+language='abbrev refl rt tt write declared ensures i32 in new now old proofs pub requires result specs'
+language+=' u32 unfoldable use'
 export LC_ALL=C
 
 # The text of a document: a line for each paragraph, heading, list item and row of a table. Blocks of code are left out:
@@ -116,6 +118,17 @@ in_module() {
     esac
 }
 
+# in_file WORD: whether Rattle.a.b.C is a file of the crate a, or a type that its code declares; what the library has
+# passes.
+in_file() {
+    local inner=${1#Rattle.}
+    case $inner in
+        std | std.*) ;;
+        *.declared.*) grep -qxF -- "${inner##*.}" "$work/names" ;;
+        *) path "${inner//.//}" ;;
+    esac
+}
+
 # there WORD: whether what a word in backticks names is there; says what is not. Other words pass.
 there() {
     case $1 in
@@ -123,6 +136,8 @@ there() {
         *' '* | *[!-[:alnum:]_:./]* | .* | [[:alpha:]]) ;;
         */* | *.antt | *.rt | *.md | *.sh) path "${1%/}" || { echo "$document: no path $1" && return 1; } ;;
         *::*) in_module "$1" || { echo "$document: no name $1" && return 1; } ;;
+        Rattle.*) in_file "$1" || { echo "$document: no file $1" && return 1; } ;;
+        *.*) there "${1##*.}" ;;
         [[:alpha:]]*) [[ " $language " = *" $1 "* ]] || grep -qxF -- "$1" "$work/names" ||
             { echo "$document: no name $1" && return 1; } ;;
     esac
