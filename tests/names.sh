@@ -1,10 +1,10 @@
 #!/usr/bin/env bash
 # Every name in backticks in the documents is one that the crates declare, and every path there is that of a file or a
-# folder. A name is one word; or words joined by ::, the last of which is declared in the module that the others name; or
-# a field behind a dot; or a file or type as the crates import it, as in Rattle.density.specs.Net. A path may start at a
-# crate and leave out .antt. Names right before a path (`name`, `path`; `name` and `name` in `path`; `name` (`path`), and
-# so on) stand in its file, and so do those in the first cell of a row whose last is paths alone. Each document counts as
-# one test, and what is missing has a line of its own. The last line is 'N passed, M failed'.
+# folder. A name is one word; or words joined by ::, the last of which is declared in the module that the others name;
+# or a field behind a dot; or a file or type as the crates import it, as in Rattle.density.specs.Net. A path may start
+# at a crate and leave out .antt. Names right before a path (`name`, `path`; `name` and `name` in `path`; `name`
+# (`path`), and so on) stand in its file, and so do those in the first cell of a row whose last is paths alone. Each
+# document counts as one test, and what is missing has a line of its own. The last line is 'N passed, M failed'.
 # shellcheck source=tests/common.sh
 . "$(dirname "$0")/common.sh" || exit
 
