@@ -2,7 +2,7 @@
 // and whether any set is dense at K = -3; or the number of its refusal. What is printed is held to stored output, and not proved.
 #![tactic(auto)]
 
-ghost use Rattle.std.specs.Prelude.{◌≤◌};
+ghost use Rattle.std.specs.Prelude.{◌≤◌, length, IfOk};
 ghost use Rattle.limits.specs.Limits.{most_objects};
 ghost use Rattle.net.specs.NetFor.{Countable};
 
@@ -10,47 +10,48 @@ use counter::range::is_above;
 use limits::OBJECTS;
 use net::{NetArrays, net_of};
 use settling::answer::{answer, base};
-use std::alloc::{AllocError, Global};
 use std::io;
 use std::io::Read;
 
 // 01: "6,000 bytes at most; that prefix gives every longer input its refusal": `longer_input_refused`, proofs/Input.antt.
-const INPUT: u64 = 6000;
+const INPUT: usize = 6000;
 
 // K = -3, as K + 64.
 const OVERCONSTRAINED: usize = 61;
 
 fn main(rt: HostRuntime) -> io::Result<()> {
-    let alloc = rt.alloc();
-    let mut input = Vec::new(alloc);
-    rt.reader().take(INPUT).read_to_end(&mut input)?;
-    let text = report(alloc, &input)?;
-    print!(rt; "{text}")
+    let mut input = [0u8; INPUT];
+    let got = read_full(rt.reader(), &mut input)?;
+    report(&rt, &input[..got])
 }
 
-// The text of the report.
-fn report(alloc: Global, drawing: &[u8]) -> Result<String, AllocError> {
-    let mut text = String::new(alloc);
+// Reads until the buffer is full or the input ends, and answers how many bytes there are.
+fn read_full<R: Read + Drop>(mut reader: R, buffer: &mut [u8]) -> io::Result<usize>
+    ensures within { IfOk result (λ n. n ≤ length buffer.new) }
+{
+    let mut got: usize = 0;
+    while got < buffer.len() {
+        let more = reader.read(&mut buffer[got..])?;
+        if more == 0 {
+            break;
+        }
+        got += more;
+    }
+    Ok(got)
+}
+
+fn report(rt: &impl Print, drawing: &[u8]) -> io::Result<()> {
     let net = net_of(drawing);
     if net.code != 0 {
-        say(&mut text, "refused ")?;
-        say_number(&mut text, net.code as usize)?;
-        say(&mut text, "\n")?;
-        return Ok(text);
+        return print!(rt; "refused {}\n", net.code);
     }
-    say(&mut text, "objects ")?;
-    say_number(&mut text, net.objects)?;
-    say(&mut text, " constraints ")?;
-    say_number(&mut text, net.constraints)?;
-    say(&mut text, "\n")?;
-    let m = net.constraints;
-    let lowest = say_lines(&mut text, net)?;
-    say_last(&mut text, m, lowest)?;
-    Ok(text)
+    print!(rt; "objects {} constraints {}\n", net.objects, net.constraints)?;
+    let lowest = say_lines(rt, net)?;
+    say_last(rt, net.constraints, lowest)
 }
 
 // A line for each constraint. Answers the lowest-numbered one above K, or the number of constraints.
-fn say_lines(text: &mut String, net: NetArrays) -> Result<usize, AllocError>
+fn say_lines(rt: &impl Print, net: NetArrays) -> io::Result<usize>
     requires { Countable net }
 {
     let n = net.objects;
@@ -70,56 +71,42 @@ fn say_lines(text: &mut String, net: NetArrays) -> Result<usize, AllocError>
         }
         let marks = top.marks;
         let set = marks.objects;
-        say_number(text, c)?;
-        say(text, " ")?;
-        say_density(text, top.above, top.below)?;
-        say_members(text, n, &set)?;
-        say(text, "\n")?;
+        print!(rt; "{c} ")?;
+        say_density(rt, top.above, top.below)?;
+        say_members(rt, n, &set)?;
+        print!(rt; "\n")?;
         c += 1;
     }
     Ok(lowest)
 }
 
 // A density, above less below.
-fn say_density(text: &mut String, above: usize, below: usize) -> Result<(), AllocError> {
+fn say_density(rt: &impl Print, above: usize, below: usize) -> io::Result<()> {
     if above < below {
-        say(text, "-")?;
-        say_number(text, below - above)
+        print!(rt; "-{}", below - above)
     } else {
-        say_number(text, above - below)
+        print!(rt; "{}", above - below)
     }
 }
 
 // The members of a set, ascending.
-fn say_members(text: &mut String, n: usize, set: &[u8; OBJECTS]) -> Result<(), AllocError>
+fn say_members(rt: &impl Print, n: usize, set: &[u8; OBJECTS]) -> io::Result<()>
     requires { n ≤ most_objects }
 {
     let mut v: usize = 0;
     while v < n {
         if set[v] > 0 {
-            say(text, " ")?;
-            say_number(text, v)?;
+            print!(rt; " {v}")?;
         }
         v += 1;
     }
     Ok(())
 }
 
-fn say_last(text: &mut String, m: usize, lowest: usize) -> Result<(), AllocError> {
-    say(text, "K -3 ")?;
+fn say_last(rt: &impl Print, m: usize, lowest: usize) -> io::Result<()> {
     if lowest == m {
-        say(text, "none")?;
+        print!(rt; "K -3 none\n")
     } else {
-        say(text, "dense ")?;
-        say_number(text, lowest)?;
+        print!(rt; "K -3 dense {lowest}\n")
     }
-    say(text, "\n")
-}
-
-fn say(text: &mut String, words: &str) -> Result<(), AllocError> {
-    text.push_str(words)
-}
-
-fn say_number(text: &mut String, n: usize) -> Result<(), AllocError> {
-    write!(text, "{n}")
 }
