@@ -20,8 +20,9 @@ root = $(DESTDIR)$(PREFIX)
 
 all: $(library) $(program)
 
+# Without --cpu it would be for newer processors than the header says.
 $(library): $(sources)
-	cd crates/brentivex && rt lib
+	cd crates/brentivex && rt lib --cpu x86-64
 
 # rt builds a program where it runs it.
 $(program): $(sources)

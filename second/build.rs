@@ -1,4 +1,4 @@
-//! Links the proved library into the tests and the benchmark. `rt lib`, in `crates/brentivex`, writes the archive.
+//! Links the proved library into the tests and the benchmark. `make` writes the archive.
 use std::{env, path::Path};
 
 fn main() {
