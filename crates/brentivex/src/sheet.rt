@@ -11,6 +11,7 @@ use counter::sheet::put_sheet;
 use net::net_of;
 
 // Writes a sound sheet for constraint c whose claim is its top density, four bytes for each constraint.
+#[tactic(auto, using(counter::proofs::Statements::can_count))]
 #[unsafe(no_mangle)]
 pub extern "C" fn brentivex_sheet(drawing: &[u8], c: u32, buffer: &mut [u8]) -> u32
     ensures { let before = buffer.old in let after = buffer.new in

@@ -7,6 +7,7 @@ use crate::{Constraint, Object};
 use limits::{CONSTRAINTS, OBJECTS, WEIGHT};
 
 // An object after so many objects and constraints.
+#[tactic(auto, using(crate::proofs::Choice::tests), unfolding(crate::specs::Fault::object_fault, crate::specs::Choice::pick))]
 pub fn object_fault(objects: usize, constraints: usize, o: Object) -> u32
     ensures { result ≡ object_fault objects constraints o }
 {

@@ -1,15 +1,10 @@
 -- `brentivex::sheet::brentivex_sheet` meets its contract. Assumes nothing.
-use native.Mathlib.Omega.{arith}
 use Rattle.counter.proofs.Outcomes.{refuses}
-use Rattle.counter.proofs.Statements.{can_count, number_enough, sheet_answered}
+use Rattle.counter.proofs.Statements.{number_enough, sheet_answered}
 use Rattle.brentivex.proofs.sheet.brentivex_sheet.Goals as goal
 
 pub returns-then-fault-ne0 : goal.returns-then-fault-ne0
 returns-then-fault-ne0 c = search refuses
-
-pub one-requires : goal.one-requires
-one-requires c =
-    record { countable = search can_count; is = omega (arith, (c.number_fault-fault.ensures.fine c.if-fault-ne0.false).names) }
 
 pub put_sheet-requires : goal.put_sheet-requires
 put_sheet-requires c = search number_enough

@@ -4,14 +4,6 @@ use Rattle.drawing.specs.Fault.{object_fault}
 use Rattle.drawing.proofs.Choice.{tests}
 use Rattle.drawing.proofs.fault.object_fault.Goals as goal
 
-pub returns-then-constraints-gt0 : goal.returns-then-constraints-gt0
-unfolding object_fault pick
-returns-then-constraints-gt0 c = search tests
-
-pub returns-then-objects-ge-OBJECTS : goal.returns-then-objects-ge-OBJECTS
-unfolding object_fault pick
-returns-then-objects-ge-OBJECTS c = search tests
-
 pub returns-then-not-object_kind : goal.returns-then-not-object_kind
 unfolding object_fault pick
 returns-then-not-object_kind c = search (tests, ← c.object_kind.ensures, c.if-not-object_kind.true)
