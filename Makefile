@@ -1,6 +1,6 @@
 # Builds the C library and the report program, and puts the library where a host's build finds it.
 #
-#   make                    crates/brentivex/out/libbrentivex.a and crates/report/out/report
+#   make                    target/staticlib/libbrentivex.a and target/bin/report
 #   make install            the library, the header and the pkg-config file, under PREFIX in DESTDIR
 #   make test               the gate
 #   make report             the report on DRAWING
@@ -9,8 +9,8 @@ PREFIX ?= /usr/local
 DESTDIR ?=
 DRAWING = examples/bracket.drawing
 
-library = crates/brentivex/out/libbrentivex.a
-program = crates/report/out/report
+library = target/staticlib/libbrentivex.a
+program = target/bin/report
 sources = crates.txt $(shell find crates -name out -prune -o -type f -print)
 root = $(DESTDIR)$(PREFIX)
 
@@ -20,13 +20,16 @@ root = $(DESTDIR)$(PREFIX)
 
 all: $(library) $(program)
 
-# Without --cpu it would be for newer processors than the header says.
+# rt writes to the folder of a crate, from where `rt ci` takes it away. Without --cpu the archive would be for newer
+# processors than the header says.
 $(library): $(sources)
 	cd crates/brentivex && rt lib --cpu x86-64
+	install -D -m 644 crates/brentivex/out/libbrentivex.a $@
 
 # rt builds a program where it runs it.
 $(program): $(sources)
-	cd crates/report && rt run < stdin > /dev/null && touch out/report
+	cd crates/report && rt run < stdin > /dev/null
+	install -D crates/report/out/report $@
 
 install: $(library)
 	install -d "$(root)/lib/pkgconfig" "$(root)/include"

@@ -3,7 +3,7 @@ use std::{env, path::Path};
 
 fn main() {
     let here = env::var("CARGO_MANIFEST_DIR").expect("cargo sets it");
-    let archive = Path::new(&here).join("../crates/brentivex/out/libbrentivex.a");
+    let archive = Path::new(&here).join("../target/staticlib/libbrentivex.a");
     println!("cargo:rerun-if-changed={}", archive.display());
     println!("cargo:rustc-link-arg-tests={}", archive.display());
     println!("cargo:rustc-link-arg-bin=bench={}", archive.display());

@@ -1,5 +1,5 @@
 #!/usr/bin/env bash
-# The calls of calls.c in four builds. It needs crates/brentivex/out/libbrentivex.a, gcc and valgrind (Debian package
+# The calls of calls.c in four builds. It needs target/staticlib/libbrentivex.a, gcc and valgrind (Debian package
 # valgrind). The last line is 'N passed, M failed'.
 #
 #   pages behind, pages in front   the library touches no byte behind a run of bytes that is lent, or before it, and
@@ -17,7 +17,7 @@ calls() {
     while [ "$1" != -- ]; do flags+=("$1") && shift; done
     shift
     gcc -std=c99 -g -O1 -Wall -Wextra -Werror -pedantic "${flags[@]}" -Iinclude tests/calls.c \
-        "$library" -o "$work/calls" && "$@" "$work/calls" examples/*.drawing
+        target/staticlib/libbrentivex.a -o "$work/calls" && "$@" "$work/calls" examples/*.drawing
 }
 
 # The calls under valgrind; fails where there is none.

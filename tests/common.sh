@@ -1,11 +1,9 @@
 # shellcheck shell=bash
-# What the tests of this folder share. A test sources this file, which takes it to the top of the repository, makes it a
-# temporary folder, $work, and names the archive for C, $library; it counts with `try` and ends with `tally`.
+# What the tests of this folder share. A test sources this file, which takes it to the top of the repository and makes
+# it a temporary folder, $work; it counts with `try` and ends with `tally`.
 set -u
 { cd "$(dirname "${BASH_SOURCE[0]}")/.." && work=$(mktemp -d); } || { echo '0 passed, 1 failed'; exit 1; }
 trap 'rm -rf "$work"' EXIT
-# shellcheck disable=SC2034  # for the tests that link the library
-library=crates/brentivex/out/libbrentivex.a
 passed=0
 failed=0
 

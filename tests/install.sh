@@ -1,6 +1,6 @@
 #!/usr/bin/env bash
 # Installs the library under temporary folders and builds and runs the C host from there, as a host's own build would.
-# It needs crates/brentivex/out/libbrentivex.a, make, pkg-config, gcc and g++. The last line is 'N passed, M failed'.
+# It needs target/staticlib/libbrentivex.a, make, pkg-config, gcc and g++. The last line is 'N passed, M failed'.
 # shellcheck source=tests/common.sh
 . "$(dirname "$0")/common.sh" || exit
 

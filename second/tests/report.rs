@@ -200,7 +200,7 @@ fn printed(input: &[u8]) -> String {
 }
 
 fn printed_in_pieces(input: &[u8], piece: usize) -> String {
-    run(PathBuf::from(env!("CARGO_MANIFEST_DIR")).join("../crates/report/out/report"), input, piece)
+    run(PathBuf::from(env!("CARGO_MANIFEST_DIR")).join("../target/bin/report"), input, piece)
 }
 
 /// What a program prints on an input that comes in pieces. It may stop reading before the input ends.
