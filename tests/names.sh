@@ -1,7 +1,8 @@
 #!/usr/bin/env bash
 # Every name in backticks in the documents is one that the crates declare, and every path there is that of a file or a
 # folder. A name is one word; or words joined by ::, the last of which is declared in the module that the others name;
-# or a field behind a dot; or a file or type as the crates import it, as in Rattle.density.specs.Net. A path may start
+# or words joined by dots, of which the last is declared; or a file or type as the crates import it, as in
+# Rattle.density.specs.Net. A path may start
 # at a crate and leave out .antt. Names right before a path (`name`, `path`; `name` and `name` in `path`; `name`
 # (`path`), and so on) stand in its file, and so do those in the first cell of a row whose last is paths alone. Each
 # document counts as one test, and what is missing has a line of its own. The last line is 'N passed, M failed'.
@@ -124,7 +125,7 @@ in_file() {
     local inner=${1#Rattle.}
     case $inner in
         std | std.*) ;;
-        *.declared.*) grep -qxF -- "${inner##*.}" "$work/names" ;;
+        *.declared.*) declares "${inner##*.}" "crates/${inner%%.*}"/src/*.rt ;;
         *) path "${inner//.//}" ;;
     esac
 }
@@ -133,7 +134,7 @@ in_file() {
 there() {
     case $1 in
         'open backtick'*) echo "$document: $1" && return 1 ;;
-        *' '* | *[!-[:alnum:]_:./]* | .* | [[:alpha:]]) ;;
+        *' '* | *[!-[:alnum:]_:./]* | .antt | [[:alpha:]]) ;;
         */* | *.antt | *.rt | *.md | *.sh) path "${1%/}" || { echo "$document: no path $1" && return 1; } ;;
         *::*) in_module "$1" || { echo "$document: no name $1" && return 1; } ;;
         Rattle.*) in_file "$1" || { echo "$document: no file $1" && return 1; } ;;
@@ -172,7 +173,7 @@ all_there() {
 find . -name .git -prune -o -path ./target -prune -o -path './crates/*/out' -prune -o -print > "$work/paths"
 find crates -name out -prune -o -type f -print > "$work/files"
 declared | sort -u > "$work/declared"
-{ sed 's/^[^ ]* //' "$work/declared" && besides; } | sort -u > "$work/names"
+{ sed -E -e '/\/(Answers|Invariants)\.antt /d' -e 's/^[^ ]* //' "$work/declared" && besides; } | sort -u > "$work/names"
 for document in "${documents[@]}"; do
     try "$document names what is not there" all_there "$document"
 done

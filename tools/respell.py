@@ -1,7 +1,7 @@
 #!/usr/bin/env python3
 """Brings the repository's own names to the spelling of today's Rattle: definitions, fields, constructors and laws in snake case.
 
-usage: python3 tools/respell.py     at the top of the repository, once, right after /opt/rattle/port/port.py
+usage: python3 tools/respell.py     at the top of the repository, once, right after the kit's port.py
 
 A name of the repository is one that a signature of a file of specs/ or proofs/ declares, or that a file binds, and no library exports there. `takenBy`
 becomes `taken_by`, `as-many` becomes `as_many`. Names of types, of the code, of goals and of files keep theirs. The texts of must-fail edits
@@ -40,7 +40,8 @@ def crates():
 
 
 def is_old(name):
-    return name[0].islower() and ("-" in name or re.search("[a-z0-9][A-Z]", name) is not None)
+    """Types are in camel case; a dash is in no name of a type."""
+    return name[0].isalpha() and "-" in name or name[0].islower() and re.search("[a-z0-9][A-Z]", name) is not None
 
 
 def snake(name):

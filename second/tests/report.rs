@@ -131,6 +131,18 @@ fn an_input_in_pieces_is_reported_as_the_second_program_does() {
     }
 }
 
+/// An output that takes nothing, and an input that cannot be read.
+#[test]
+fn a_failed_write_or_read_ends_the_report_with_an_error() {
+    let full = fs::OpenOptions::new().write(true).open("/dev/full").expect("a device that is always full");
+    let folder = fs::File::open(env!("CARGO_MANIFEST_DIR")).expect("a folder, which is no input");
+    for (input, output) in [(Stdio::null(), full.into()), (folder.into(), Stdio::piped())] {
+        let ended = Command::new(program()).stdin(input).stdout(output).output().expect("the program starts");
+        assert_eq!(ended.status.code(), Some(1));
+        assert!(ended.stdout.is_empty() && ended.stderr.starts_with(b"Error: "));
+    }
+}
+
 #[test]
 fn second_report_prints_the_report_of_the_second_program() {
     let longest = writer::bytes(&largest(&mut Random::from_seed(25)));
@@ -200,7 +212,11 @@ fn printed(input: &[u8]) -> String {
 }
 
 fn printed_in_pieces(input: &[u8], piece: usize) -> String {
-    run(PathBuf::from(env!("CARGO_MANIFEST_DIR")).join("../target/bin/report"), input, piece)
+    run(program(), input, piece)
+}
+
+fn program() -> PathBuf {
+    PathBuf::from(env!("CARGO_MANIFEST_DIR")).join("../target/bin/report")
 }
 
 /// What a program prints on an input that comes in pieces. It may stop reading before the input ends.

@@ -72,12 +72,12 @@ unfolding weighed
 five_are_no_answer a = a.least (set_of (0 ∷ 4 ∷ [])) ((table_correct 9 (lit< tt)).answers 6 (lit< tt)).reached 1 (lit< tt) tt
 
 -- "'At least K' for 'above K': C would be dense at -3."
-pub C-has-three : minus 3 ≤ℤ density (weighed C.drawing) (set_of (0 ∷ 1 ∷ []))
+pub C_has_three : minus 3 ≤ℤ density (weighed C.drawing) (set_of (0 ∷ 1 ∷ []))
 unfolding density taken_by free sum weighed object_weight constraint_weight in_force object_table table_weight allowed pick
-C-has-three = le_z_yes tt
+C_has_three = le_z_yes tt
 
-pub C-is-not-dense : NoneDense (weighed C.drawing) (minus 3)
-C-is-not-dense =
+pub C_is_not_dense : NoneDense (weighed C.drawing) (minus 3)
+C_is_not_dense =
     (no_set_none_dense (weighed C.drawing) (table_correct 2 (lit< tt)).proper (minus 3)).0
     ((none_no_set (weighed C.drawing) (table_correct 2 (lit< tt)).proper (minus 3)).0 ((table_correct 2 (lit< tt)).said_so 0 (lit< tt)))
 

@@ -45,8 +45,8 @@ backwards =
 abbrev pub renumbered_c : Drawing
 renumbered_c = points 3 (distance 2 1 ∷ distance 1 0 ∷ distance 2 0 ∷ [])
 
-pub C-renumbered : Renumbered C.drawing renumbered_c
-C-renumbered =
+pub C_renumbered : Renumbered C.drawing renumbered_c
+C_renumbered =
     record {
       to = λ v. 2 - v;
       from = λ v. 2 - v;
@@ -60,8 +60,8 @@ C-renumbered =
 abbrev pub reordered_c : Drawing
 reordered_c = points 3 (distance 2 0 ∷ distance 1 0 ∷ distance 2 1 ∷ [])
 
-pub C-reordered : Reordered renumbered_c reordered_c
-C-reordered =
+pub C_reordered : Reordered renumbered_c reordered_c
+C_reordered =
     record {
       same_objects = refl;
       to = λ e. 2 - e;
@@ -74,17 +74,17 @@ C-reordered =
 abbrev pub exchanged_c : Drawing
 exchanged_c = points 3 (distance 0 2 ∷ distance 1 0 ∷ distance 2 1 ∷ [])
 
-pub C-exchanged : Exchanged reordered_c exchanged_c
-C-exchanged =
+pub C_exchanged : Exchanged reordered_c exchanged_c
+C_exchanged =
     record { same_objects = refl; as_many = refl; either_way = three _ (inr refl) (inl refl) (inl refl) }
 
 -- H is 0-1 twice. Joined, it is one distance 1-0 that states 2, the sum of their weights
 abbrev pub joined_h : Drawing
 joined_h = points 2 (stating 2 (distance 1 0) ∷ [])
 
-pub H-joined : Joined H.drawing joined_h
+pub H_joined : Joined H.drawing joined_h
 unfolding sum constraint_weight in_force table_weight allowed pick
-H-joined =
+H_joined =
     record {
       same_objects = refl;
       into = λ e. 0;
@@ -95,24 +95,24 @@ H-joined =
     }
 
 -- H joined and taken apart again: constraint 0 becomes both
-pub H-changes : Changes H.drawing H.drawing
+pub H_changes : Changes H.drawing H.drawing
 unfolding weighed
-H-changes =
-    made (proper_passed (weighed H.drawing) tt) (joined H-joined)
-    (undone (proper_passed (weighed H.drawing) tt) (joined H-joined) unchanged)
+H_changes =
+    made (proper_passed (weighed H.drawing) tt) (joined H_joined)
+    (undone (proper_passed (weighed H.drawing) tt) (joined H_joined) unchanged)
 
-pub H-becomes : Becomes H-changes 0 0 × Becomes H-changes 0 1
-unfolding H-changes H-joined
-H-becomes = ((0, lit< tt, refl, refl), (1, lit< tt, refl, refl))
+pub H_becomes : Becomes H_changes 0 0 × Becomes H_changes 0 1
+unfolding H_changes H_joined
+H_becomes = ((0, lit< tt, refl, refl), (1, lit< tt, refl, refl))
 
 -- C and its last form are a sequence of changes apart, and constraint 0 becomes constraint 2
-pub C-changes : Changes C.drawing exchanged_c
+pub C_changes : Changes C.drawing exchanged_c
 unfolding weighed
-C-changes =
-    made (proper_passed (weighed C.drawing) tt) (renumbered C-renumbered)
-    (made (proper_passed (weighed renumbered_c) tt) (reordered C-reordered)
-    (made (proper_passed (weighed reordered_c) tt) (exchanged C-exchanged) unchanged))
+C_changes =
+    made (proper_passed (weighed C.drawing) tt) (renumbered C_renumbered)
+    (made (proper_passed (weighed renumbered_c) tt) (reordered C_reordered)
+    (made (proper_passed (weighed reordered_c) tt) (exchanged C_exchanged) unchanged))
 
-pub C-becomes : Becomes C-changes 0 2
-unfolding C-changes C-renumbered C-reordered C-exchanged
-C-becomes = refl
+pub C_becomes : Becomes C_changes 0 2
+unfolding C_changes C_renumbered C_reordered C_exchanged
+C_becomes = refl

@@ -1,5 +1,6 @@
 // The report: reads a drawing on standard input and prints its counts, the top density and the members of each constraint's answer set,
-// and whether any set is dense at K = -3; or the number of its refusal. What is printed is held to stored output, and not proved.
+// and whether any set is dense at K = -3; or the number of its refusal. A read or a write that fails ends it with an error. What is
+// printed is held to stored output, and not proved.
 #![tactic(auto)]
 
 ghost use Rattle.std.specs.Prelude.{◌≤◌, length, IfOk};
@@ -25,9 +26,9 @@ fn main(rt: HostRuntime) -> io::Result<()> {
     report(&rt, &input[..got])
 }
 
-// Reads until the buffer is full or the input ends, and answers how many bytes there are.
+// Reads until the buffer is full or the input ends, and answers how many bytes there are, or the error of a read.
 fn read_full<R: Read + Drop>(mut reader: R, buffer: &mut [u8]) -> io::Result<usize>
-    ensures within { IfOk result (λ n. n ≤ length buffer.new) }
+    ensures { IfOk result (λ n. n ≤ length buffer.new) }
 {
     let mut got: usize = 0;
     while got < buffer.len() {
