@@ -66,12 +66,12 @@ with_ending() {
     find crates -name out -prune -o -name "*.$1" -print
 }
 
-# What each file of the crates declares, FILE NAME: NAME.. : TYPE, data NAME, record NAME of definitions and laws;
+# What each file of the crates declares, FILE NAME: NAME.. : TYPE, data, record or ruleset NAME of definitions and laws;
 # functions, types, constants, fields and cases of the code; a must-fail edit its own name.
 declared() {
     local file modifiers='((unfoldable|abbrev|pub) )*' name='[A-Za-z][^ (]*'
     with_ending antt | while read -r file; do
-        sed -nE -e "s/^ *$modifiers(data|record) ([^ ]+).*/\4/p" \
+        sed -nE -e "s/^ *$modifiers(data|record|ruleset) ([^ ]+).*/\4/p" \
             -e "/^ *let /!s/^ *$modifiers($name( $name)*)( \{[^}]*\})? :( .*)?$/\3/p" "$file" | tr -s ' ' '\n' |
             sed "s|^|$file |"
     done

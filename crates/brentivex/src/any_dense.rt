@@ -10,7 +10,7 @@ use counter::fault::range_fault;
 use net::net_of;
 
 // Writes the block of the lowest-numbered constraint whose top density is above K; or answers none, and writes nothing.
-#[tactic(auto, using(counter::proofs::Statements::all_at, counter::proofs::Statements::any_writable, counter::proofs::Statements::range_enough))]
+#[tactic(auto, using(counter::proofs::Statements::any_needs))]
 #[unsafe(no_mangle)]
 pub extern "C" fn brentivex_any_dense(drawing: &[u8], k: i32, buffer: &mut [u8]) -> u32
     ensures { let before = buffer.old in let after = buffer.new in

@@ -113,6 +113,9 @@ all_at stands first z = record { countable = can_count stands first z; is_in_ran
 pub any_writable : {a : NetArrays} {y : ℤ} {f : Finding} → Sought a y f → f.found ≡ true → Writable f.block
 any_writable sought e = let b = (sought.yes e).block_in in writable b.solved b.block_is
 
+-- what counting and writing require, for the attribute of the entry
+pub ruleset any_needs = (all_at, any_writable, range_enough)
+
 module _ {x : Reading} {a : NetArrays} (stands : NetFor x a) {y k : ℤ} (same : y ≡ k) {before : List ℕ} {Fine : Type 0} {r : ℕ}
     (first : FirstOf a.code ((any_dense y (length before)).fault a.objects a.constraints) Fine r) where
   for_k : {code : ℕ} {after : List ℕ} → Answers (any_dense y (length before)) x code before after → Answers (any_dense k (length before)) x code before after
