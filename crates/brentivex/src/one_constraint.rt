@@ -1,9 +1,11 @@
 // One constraint: the greatest density of any set that holds constraint c, and the least such set.
 ghost use Rattle.std.specs.Prelude.{length};
+ghost use Rattle.codes.specs.Codes.{outcome_code};
 ghost use Rattle.records.specs.Read.{read};
 ghost use Rattle.counter.specs.Outcome.{Answers};
 ghost use Rattle.counter.specs.Question.{one_constraint};
 
+use codes::{Answer, Fault, code};
 use counter::block::{BLOCK, put_block};
 use counter::count::{block_of, one};
 use counter::fault::number_fault;
@@ -15,12 +17,17 @@ pub extern "C" fn brentivex_one_constraint(drawing: &[u8], c: u32, buffer: &mut 
     ensures { let before = buffer.old in let after = buffer.new in
         Answers (one_constraint c (length before)) (read drawing.now) result before after }
 {
-    let c = c as usize;
-    let net = net_of(drawing);
-    let fault = number_fault(net.code, net.constraints, c, buffer.len(), BLOCK);
-    if fault != 0 {
-        return fault;
-    }
-    put_block(block_of(c, one(net, c)), buffer);
-    0
+    // No From leads from u32 to usize.
+    code(one_constraint(drawing, c as usize, buffer))
+}
+
+#[tactic(auto, using(counter::proofs::Statements::one_constraint_laws))]
+fn one_constraint(drawing: &[u8], c: usize, buffer: &mut [u8]) -> Result<Answer, Fault>
+    ensures { let before = buffer.old in let after = buffer.new in
+        Answers (one_constraint c (length before)) (read drawing.now) (outcome_code result) before after }
+{
+    let net = net_of(drawing)?;
+    number_fault(net.constraints, c, buffer.len(), BLOCK)?;
+    put_block(block_of(c, one(&net, c)), buffer);
+    Ok(Answer::Given)
 }

@@ -1,4 +1,3 @@
 -- laws of the check of a sheet
 mod AddingUp
-mod Claimed
 mod Deciding

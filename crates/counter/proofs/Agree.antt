@@ -12,9 +12,9 @@ use Rattle.density.proofs.OneAnswer.{answers_agree, lowest_one}
 use Rattle.drawing.specs.Entry.{Drawing}
 use Rattle.records.specs.Read.{Reading, refused, accepted}
 use Rattle.net.specs.Weighed.{weighed}
-use Rattle.counter.specs.Outcome.{Outcome, answered, Question, Unless, Fits, over, Answers, Replies, asked_fault}
+use Rattle.counter.specs.Outcome.{Outcome, answered, Question, Unless, Fits, Answers, Replies, asked_fault}
 use Rattle.counter.specs.Question.{look_over, one_constraint, any_dense, sheet_for, check, BlockOf, SheetOf}
-use Rattle.counter.proofs.Outcomes.{Came, drawing_refused, call_refused, answer_given, came, code_alone}
+use Rattle.counter.proofs.Outcomes.{Came, drawing_refused, call_refused, answer_given, came, code_alone, code_is, buffer_is}
 use Rattle.counter.proofs.DemandOne.{sheet_besides, other_codes_write_nothing}
 use Rattle.counter.proofs.Blocks.{block_same}
 use lib.Seq.{drop_at}
@@ -25,7 +25,7 @@ abbrev pub Determines : {A : Type 0} → (Outcome → A) → Question → Type 0
 Determines part q = (d : Drawing) (o p : Outcome) → q.answer d o → q.answer d p → part o ≡ part p
 
 module _ {A : Type 0} (part : Outcome → A) (q : Question) (determined : Determines part q) where
-  pub outcomes_agree : (r : Reading) (o p : Outcome) → Fits q r o → Fits q r p → part o ≡ part p
+  outcomes_agree : (r : Reading) (o p : Outcome) → Fits q r o → Fits q r p → part o ≡ part p
   outcomes_agree (refused n) o p x y = ap part (x ∙ sym y)
   outcomes_agree (accepted d) o p x y = go (asked_fault q d) x y
     where
@@ -37,8 +37,8 @@ module _ {A : Type 0} (part : Outcome → A) (q : Question) (determined : Determ
 pub results_agree : (q : Question) → Determines (λ o. o) q → {s : Reading} {r₁ r₂ : ℕ} {before after₁ after₂ : List ℕ}
     → Answers q s r₁ before after₁ → Answers q s r₂ before after₂ → (r₁ ≡ r₂) × (after₁ ≡ after₂)
 results_agree q determined {s} {before = before} a b = (
-  a.result_is ∙ ap (λ (o : Outcome). o.code) same ∙ sym b.result_is,
-  a.after_is ∙ ap (λ (o : Outcome). over o.bytes before) same ∙ sym b.after_is,
+  a.result_is ∙ code_is same ∙ sym b.result_is,
+  a.after_is ∙ buffer_is before same ∙ sym b.after_is,
 )
   where
     same : a.outcome ≡ b.outcome
@@ -46,7 +46,7 @@ results_agree q determined {s} {before = before} a b = (
 
 -- ---- each question
 
-pub look_over_determines : (room : ℕ) → Determines (λ o. o) (look_over room)
+look_over_determines : (room : ℕ) → Determines (λ o. o) (look_over room)
 look_over_determines room d o p x y = x ∙ sym y
 
 blocks_agree : (d : Drawing) (c : ℕ) (o p : Outcome) → BlockOf d c o → BlockOf d c p → o ≡ p
@@ -62,7 +62,7 @@ one_constraint_determines c room d o p x y = blocks_agree d c o p x y
 lowest_clash : (d : Drawing) (k : ℤ) (c : ℕ) → LowestAbove (weighed d) k c → NoneAt (weighed d) k → ⊥
 lowest_clash d k c l none = clash_ℤ l.above (none c l.top l.is l.top_is)
 
-pub any_dense_determines : (k : ℤ) (room : ℕ) → Determines (λ o. o) (any_dense k room)
+any_dense_determines : (k : ℤ) (room : ℕ) → Determines (λ o. o) (any_dense k room)
 any_dense_determines k room d o p (inl x) (inl y) =
     blocks_agree d x.constraint o p x.block_of
     (subst (λ (c : ℕ). BlockOf d c p) (sym (lowest_one (weighed d) k x.constraint y.constraint x.lowest y.lowest)) y.block_of)
@@ -70,7 +70,7 @@ any_dense_determines k room d o p (inl x) (inr y) = absurd (lowest_clash d k x.c
 any_dense_determines k room d o p (inr x) (inl y) = absurd (lowest_clash d k y.constraint y.lowest x.none)
 any_dense_determines k room d o p (inr x) (inr y) = x.is ∙ sym y.is
 
-pub check_determines : (c : ℕ) (b : List ℕ) (z : ℤ) → Determines (λ o. o) (check c b z)
+check_determines : (c : ℕ) (b : List ℕ) (z : ℤ) → Determines (λ o. o) (check c b z)
 check_determines c b z d o p (inl (x, e)) (inl (y, f)) = e ∙ sym f
 check_determines c b z d o p (inl (x, e)) (inr (y, f)) = absurd (y x)
 check_determines c b z d o p (inr (x, e)) (inl (y, f)) = absurd (x y)
@@ -96,7 +96,7 @@ constraints_read (refused n) = 0
 constraints_read (accepted d) = length d.constraints
 
 -- every byte behind the sheet is as it was
-pub sheet_behind : (c : ℕ) {x : Reading} {r : ℕ} {before after : List ℕ} → Answers (sheet_for c (length before)) x r before after
+sheet_behind : (c : ℕ) {x : Reading} {r : ℕ} {before after : List ℕ} → Answers (sheet_for c (length before)) x r before after
     → drop (sheet_size (constraints_read x)) after ≡ drop (sheet_size (constraints_read x)) before
 sheet_behind c {x} {before = before} {after = after} a = go (came (sheet_for c (length before)) x a.outcome a.fits)
   where
@@ -108,7 +108,7 @@ sheet_behind c {x} {before = before} {after = after} a = go (came (sheet_for c (
     go (call_refused d n is f e) = ap (drop (sheet_size (constraints_read x))) (code_alone a (suc n) e).1
     go (answer_given d is f y) =
         subst Behind (sym is)
-        (ap (drop (sheet_size (length d.constraints))) (a.after_is ∙ ap (λ (o : Outcome). over o.bytes before) y.is)
+        (ap (drop (sheet_size (length d.constraints))) (a.after_is ∙ buffer_is before y.is)
         ∙ drop_at y.bytes (drop (length y.bytes) before) (sheet_size (length d.constraints)) y.long
         ∙ ap (λ (k : ℕ). drop k before) y.long)
 

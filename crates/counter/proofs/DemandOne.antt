@@ -11,7 +11,7 @@ use Rattle.records.specs.Read.{Reading, refused, read}
 use Rattle.counter.specs.Outcome.{Outcome, says, Question, Answers, first_fault}
 use Rattle.counter.specs.Question.{one_constraint, any_dense, sheet_for, check, look_over}
 use Rattle.records.proofs.Reading.{refused_number}
-use Rattle.counter.proofs.Outcomes.{Came, drawing_refused, call_refused, answer_given, came, code_alone}
+use Rattle.counter.proofs.Outcomes.{Came, drawing_refused, call_refused, answer_given, came, code_alone, code_is}
 
 -- where nothing is amiss, an answer has code 0, or code k and no bytes
 abbrev pub Besides : ℕ → Question → Type 0
@@ -66,18 +66,18 @@ module _ (q : Question) {x : Reading} {r : ℕ} {before after : List ℕ} (a : A
 
 -- the code of each question besides 0, where it has one
 pub look_over_besides : (room : ℕ) → Besides 0 (look_over room)
-look_over_besides room d o e = inl (ap (λ (p : Outcome). p.code) e)
+look_over_besides room d o e = inl (code_is e)
 
 pub one_constraint_besides : (c room : ℕ) → Besides 0 (one_constraint c room)
-one_constraint_besides c room d o b = inl (ap (λ (p : Outcome). p.code) b.is)
+one_constraint_besides c room d o b = inl (code_is b.is)
 
 pub any_dense_besides : (k : ℤ) (room : ℕ) → Besides 32 (any_dense k room)
-any_dense_besides k room d o (inl b) = inl (ap (λ (p : Outcome). p.code) b.block_of.is)
+any_dense_besides k room d o (inl b) = inl (code_is b.block_of.is)
 any_dense_besides k room d o (inr b) = inr b.is
 
 pub sheet_besides : (c room : ℕ) → Besides 0 (sheet_for c room)
-sheet_besides c room d o x = inl (ap (λ (p : Outcome). p.code) x.is)
+sheet_besides c room d o x = inl (code_is x.is)
 
 pub check_besides : (c : ℕ) (b : List ℕ) (z : ℤ) → Besides 33 (check c b z)
-check_besides c b z d o (inl (x, e)) = inl (ap (λ (p : Outcome). p.code) e)
+check_besides c b z d o (inl (x, e)) = inl (code_is e)
 check_besides c b z d o (inr (x, e)) = inr e

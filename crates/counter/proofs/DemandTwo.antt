@@ -1,7 +1,7 @@
 -- Demand 2: the density reported is the greatest of any set that holds the constraint, and the set reported has it; none is said exactly when
 -- no set that holds a constraint has density above K; a sheet that is accepted bounds every set that holds the constraint. Said of the result
 -- of a call and of the bytes of the lent buffer before and after it. Assumes nothing.
-use mathlib.Core.Path.{◌≡◌, sym, ◌∙◌, ap, subst, refl}
+use mathlib.Core.Path.{◌≡◌, sym, ◌∙◌, subst, refl}
 use mathlib.Core.Logic.{◌↔◌, ◌⊎◌, inl, inr}
 use mathlib.Core.List.{List, ◌++◌}
 use Prim.Native.Nat.{ℕ, ◌<◌, ◌≤◌}
@@ -20,11 +20,11 @@ use Rattle.net.specs.Weighed.{weighed, Within}
 use Rattle.counter.specs.Block.{block_size, number_in, density_in, set_in}
 use Rattle.checker.specs.Sheet.{sheet_size, sheet_in}
 use Rattle.counter.specs.Fault.{room_fault, number_fault}
-use Rattle.counter.specs.Outcome.{Outcome, says, over, Answers, Replies, asked_fault}
+use Rattle.counter.specs.Outcome.{says, Answers, Replies, asked_fault}
 use Rattle.counter.specs.Question.{one_constraint, any_dense, sheet_for, check, LowestBlock, NoBlock, SheetOf, Shows}
 use Rattle.net.proofs.Within.{accepted_within}
 use Rattle.counter.proofs.Faults.{room_there, number_there, number_names, number_low, range_low}
-use Rattle.counter.proofs.Outcomes.{unrefused, faultless_answered}
+use Rattle.counter.proofs.Outcomes.{unrefused, faultless_answered, code_is, buffer_is}
 use Rattle.counter.proofs.ReadBack.{sheet_front, block_says}
 
 -- no fault where c names a constraint and there is room
@@ -58,7 +58,7 @@ module _ (s : List ℕ) (d : Drawing) (is : read s ≡ accepted d) where
       go (inl b) =
           let x = block_says d within b.constraint b.lowest.is a.outcome b.block_of before after a.after_is in
           subst Says (sym x.0) (b.lowest, x.1)
-      go (inr b) = absurd (omega (arith, a.result_is, ap (λ (p : Outcome). p.code) b.is))
+      go (inr b) = absurd (omega (arith, a.result_is, code_is b.is))
 
   -- any dense: none exactly when no set that holds a constraint has density above K
   pub none_exactly : (k : ℤ) {r : ℕ} {before after : List ℕ} → Answers (any_dense k (length before)) (read s) r before after → (r ≡ 0) ⊎ (32 ≤ r)
@@ -67,13 +67,13 @@ module _ (s : List ℕ) (d : Drawing) (is : read s ≡ accepted d) where
     where
       go : LowestBlock d k a.outcome ⊎ NoBlock d k a.outcome → (r ≡ 32) ↔ NoSetAbove (weighed d) k
       go (inl b) = (
-        λ e. absurd (omega (arith, a.result_is, ap (λ (p : Outcome). p.code) b.block_of.is)),
+        λ e. absurd (omega (arith, a.result_is, code_is b.block_of.is)),
         λ h.
             clash_ℤ b.lowest.above
             ((none_no_set (weighed d) within.proper k).1 h b.constraint b.lowest.top b.lowest.is b.lowest.top_is),
       )
       go (inr b) =
-          (λ _. (none_no_set (weighed d) within.proper k).0 b.none, λ _. a.result_is ∙ ap (λ (p : Outcome). p.code) b.is)
+          (λ _. (none_no_set (weighed d) within.proper k).0 b.none, λ _. a.result_is ∙ code_is b.is)
 
   -- check: a sheet that is accepted for a claim bounds every set that holds the constraint
   pub accepted_bounds : (c : ℕ) (b : List ℕ) (z : ℤ) → Replies (check c b z) (read s) 0 → Bound (weighed d) c z
@@ -87,7 +87,7 @@ module _ (s : List ℕ) (d : Drawing) (is : read s ≡ accepted d) where
       go (inl (y, e)) =
           subst (λ (t : ℤ). Bound (weighed d) c t) y.claims
           (sheet_bounds (weighed d) within.proper c (number_names m c (room_fault (length b) (sheet_size m)) x.0) (sheet_in b) y.sound)
-      go (inr (y, e)) = absurd (omega (arith, a.result_is, ap (λ (p : Outcome). p.code) e))
+      go (inr (y, e)) = absurd (omega (arith, a.result_is, code_is e))
 
   -- the sheet question's own sheet, in the buffer as it is left, is accepted by the check with the top density as its claim
   pub own_sheet_accepted : (c : ℕ) {before after : List ℕ} → Answers (sheet_for c (length before)) (read s) 0 before after
@@ -105,7 +105,7 @@ module _ (s : List ℕ) (d : Drawing) (is : read s ≡ accepted d) where
       behind = drop (length own) before
 
       after_is : after ≡ own ++ behind
-      after_is = a.after_is ∙ ap (λ (o : Outcome). over o.bytes before) x.1.is
+      after_is = a.after_is ∙ buffer_is before x.1.is
 
       long : sheet_size m ≤ length after
       long = subst (λ (l : List ℕ). sheet_size m ≤ length l) (sym after_is) (omega (arith, length-append own behind, x.1.long))
@@ -126,5 +126,5 @@ module _ (s : List ℕ) (d : Drawing) (is : read s ≡ accepted d) where
           }
 
       go : (Shows d c after z × (checked.outcome ≡ says 0)) ⊎ ((Shows d c after z → ⊥) × (checked.outcome ≡ says 33)) → r ≡ 0
-      go (inl (y, e)) = checked.result_is ∙ ap (λ (o : Outcome). o.code) e
+      go (inl (y, e)) = checked.result_is ∙ code_is e
       go (inr (y, e)) = absurd (y shows)

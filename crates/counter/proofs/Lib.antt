@@ -1,5 +1,4 @@
 -- the published theorems, and what other crates cite
-pub mod Solving
 pub mod Outcomes
 pub mod ReadBack
 pub mod Statements
@@ -9,6 +8,5 @@ pub mod DemandTwo
 pub mod DemandThree
 -- what only the proofs of this crate use
 mod Sizes
-mod SignedK
 mod Faults
 mod Blocks

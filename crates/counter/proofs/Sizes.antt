@@ -1,18 +1,25 @@
 -- Densities of an accepted drawing fit 16 bits. Assumes nothing.
 use mathlib.Core.Path.{◌≡◌, sym}
-use Prim.Native.Nat.{ℕ, ◌+◌, ◌*◌, ◌≤◌, ◌<◌}
+use Prim.Native.Nat.{ℕ, suc, ◌+◌, ◌*◌, ◌≤◌, ◌<◌}
 use native.Mathlib.Omega.{arith}
-use lib.IntN.{ℤ, sub_ℕ}
+use lib.IntN.{ℤ, pos, negsuc, sub_ℕ}
+use Rattle.std.specs.Prelude.{◌≤ℤ◌}
+use Rattle.std.proofs.lemmas.Int.{ints}
 use lib.ListN.{length}
 use Rattle.density.specs.Sum.{counted}
 use Rattle.density.specs.Net.{Set, holds}
 use Rattle.density.specs.Density.{taken_by, free, density}
 use Rattle.density.specs.Top.{Top}
+use Rattle.density.proofs.Integers.{sub_up, sub_down}
 use Rattle.density.proofs.Sums.{counted_le, sum_most}
 use Rattle.limits.specs.Limits.{most_objects, most_constraints, most_weight}
 use Rattle.drawing.specs.Entry.{Drawing}
 use Rattle.drawing.specs.Weight.{constraint_weight}
+use Rattle.arrays.specs.declared.NetArrays.{NetArrays}
+use Rattle.settling.specs.declared.answer.Solution.{Solution}
 use Rattle.net.specs.Weighed.{weight_of, weighed, Within}
+use Rattle.counter.specs.declared.block.Block.{Block}
+use Rattle.counter.specs.Counting.{SolvedIn, block_from}
 
 -- a density that 16 bits hold
 pub record Short (t : ℤ) : Type 0 where
@@ -53,3 +60,12 @@ module _ (d : Drawing) (within : Within d) where
         high = omega (arith, taken_small top.set);
         low = omega (arith, free_small top.set);
       }
+
+-- a density within the bounds of an answer, and so that of the block of an answer
+short : (t : ℤ) → sub_ℕ 0 (most_weight + most_weight) ≤ℤ t → t ≤ℤ pos (most_weight * most_constraints) → Short t
+short (pos n) low high = record { more = n; less = 0; is = sym (sub_up n 0 n (omega arith)); high = omega (arith, ints, high); low = omega arith }
+short (negsuc n) low high =
+    record { more = 0; less = suc n; is = sym (sub_down 0 (suc n) n (omega arith)); high = omega arith; low = omega (arith, ints, low) }
+
+pub writable : (a : NetArrays) (c : ℕ) (top : Solution) → SolvedIn a c top → {e : ℕ} {b : Block} → b ≡ block_from e top → Short b.density
+writable a c top solved is = rw is (short top.density solved.low solved.high)

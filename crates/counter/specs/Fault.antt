@@ -1,6 +1,6 @@
--- What is wrong with what is asked, and the first fault of a call. 01, 'What is turned away, in order': ".. Then 9, 10, 11, 12." A fault is
+-- What is wrong with what is asked. 01, 'What is turned away, in order': ".. Then 9, 10, 11, 12." A fault is
 -- its number there, and 0 is none; `rest` is what is judged behind it. Assumes nothing.
-use Rattle.std.specs.Prelude.{◌≡◌, true, not, ℕ, ◌≤◌, ◌<◌, eqb, leb, ltb, ℤ}
+use Rattle.std.specs.Prelude.{◌≡◌, true, not, ℕ, ◌≤◌, ◌<◌, leb, ltb, ℤ}
 use Rattle.drawing.specs.Choice.{pick}
 use Rattle.counter.specs.Range.{in_range}
 
@@ -16,16 +16,7 @@ number_fault m c rest = pick (leb m c) 11 rest
 abbrev pub room_fault : ℕ → ℕ → ℕ
 room_fault room need = pick (ltb room need) 12 0
 
--- the first fault of a call: the drawing's code, and where that is 0 the first of what is asked
-abbrev pub call_fault : ℕ → ℕ → ℕ
-call_fault code asked = pick (eqb code 0) asked code
-
--- ---- what the functions that judge a call answer: r is its first fault, and where there is none `Fine` holds
-
-pub record FirstOf (code asked : ℕ) (Fine : Type 0) (r : ℕ) : Type 0 where
-  pub is : r ≡ call_fault code asked
-  pub clean : r ≡ 0 → code ≡ 0
-  pub fine : r ≡ 0 → Fine
+-- ---- what holds where nothing asked is at fault
 
 -- c is the number of one of m constraints, and there is room
 pub record Named (m c need room : ℕ) : Type 0 where

@@ -1,13 +1,12 @@
 // The answer block: constraint number, density, set.
-ghost use Rattle.std.specs.Prelude.{◌≡◌, true, ◌++◌, ◌+◌, ◌<◌, ◌≤◌, ◌/◌, ◌%◌, length, set};
-ghost use Rattle.std.proofs.Math.IntN.{sub_ℕ};
-ghost use Rattle.density.specs.Sum.{counted};
+ghost use Rattle.std.specs.Prelude.{◌≡◌, ◌++◌, ◌+◌, ◌<◌, ◌≤◌, ◌/◌, ◌%◌, length, set};
 ghost use Rattle.limits.specs.Limits.{most_objects};
 ghost use Rattle.routes.specs.Marked.{members};
 ghost use Rattle.counter.specs.Outcome.{over};
-ghost use Rattle.counter.specs.Written.{Writable, block_bytes, FindingWritten};
+ghost use Rattle.counter.specs.Written.{block_bytes, FindingWritten};
 ghost use Rattle.counter.specs.Block.{two, complement, numbers_size, set_size, set_byte, set_bytes, block_size};
 
+use codes::Answer;
 use limits::OBJECTS;
 use routes::search::Marks;
 
@@ -18,32 +17,32 @@ const SET: usize = OBJECTS / 8;
 
 pub const BLOCK: usize = TWO_NUMBERS + SET;
 
-// The code for none.
-const NONE: u32 = 32;
-
-// A block as values: a constraint, its density, which is above less below, and its set, which is marked.
+// A block as values: a constraint, its density and its set, which is marked.
 #[derive(Clone, Copy)]
 pub struct Block {
     pub constraint: usize,
-    pub above: usize,
-    pub below: usize,
+    pub density: i32,
     pub marks: Marks,
 }
 
-// A block, if one was found.
-#[derive(Clone, Copy)]
-pub struct Finding {
-    pub found: bool,
-    pub block: Block,
+impl Block {
+    // The density as 16-bit two's complement.
+    #[tactic(auto, unfolding(crate::specs::Block::complement))]
+    fn two_complement(&self) -> usize
+        ensures { result ≡ complement self.now.density }
+    {
+        // A natural number, as `put_numbers` takes it. A remainder is not negative; no From leads from i32 to usize.
+        self.density.rem_euclid(65536) as usize
+    }
 }
 
 // Writes a number in two bytes, the lower first.
+#[tactic(auto, using(crate::proofs::block::Writing::two_written))]
 pub fn put_two(buffer: &mut [u8], at: usize, n: usize)
     requires { at + 1 < length buffer.old }
     ensures { buffer.new ≡ set (set buffer.old at (n % 256)) (at + 1) (n / 256 % 256) }
 {
-    buffer[at] = (n % 256) as u8;
-    buffer[at + 1] = (n / 256 % 256) as u8;
+    buffer[at..at + 2].copy_from_slice(&n.to_le_bytes()[..2]);
 }
 
 // Writes two numbers at the front.
@@ -55,71 +54,51 @@ pub fn put_numbers(x: usize, y: usize, buffer: &mut [u8])
     put_two(buffer, 2, y);
 }
 
-// A density, above less below, as 16-bit two's complement.
-fn two_complement(above: usize, below: usize) -> usize
-    requires { (above < 32768) × (below < 32768) }
-    ensures { result ≡ complement (sub_ℕ above below) }
-{
-    (above + 65536 - below) % 65536
-}
-
-// The value of a bit where object v is marked, else 0.
-fn bit(marks: &[u8; OBJECTS], v: usize, value: u8) -> u8
-    requires { v < most_objects }
-    ensures { (result ≡ counted (members marks.now v) value) × (result ≤ value) }
-{
-    if marks[v] > 0 { value } else { 0 }
-}
-
-// Byte j of the set of marked objects.
-fn set_byte(marks: &[u8; OBJECTS], j: usize) -> u8
+// Byte j of the set of marked objects: object 8j + b at bit b.
+#[tactic(auto, using(crate::proofs::block::Writing::bit_laws), unfolding(crate::specs::Block::set_byte))]
+fn set_byte(marks: &Marks, j: usize) -> u8
     requires { j < set_size }
-    ensures { result ≡ set_byte most_objects (members marks.now) j }
+    ensures { result ≡ set_byte most_objects (members marks.now.objects) j }
 {
-    let v = 8 * j;
-    let low = bit(marks, v, 1) + bit(marks, v + 1, 2) + bit(marks, v + 2, 4) + bit(marks, v + 3, 8);
-    low + bit(marks, v + 4, 16)
-        + bit(marks, v + 5, 32)
-        + bit(marks, v + 6, 64)
-        + bit(marks, v + 7, 128)
+    let mut byte = 0;
+    // Over a slice of the marks its proof did not close.
+    for b in 0..8 {
+        if marks.objects[8 * j + b] > 0 {
+            byte += 1 << b;
+        }
+    }
+    byte
 }
 
 // Writes the set of marked objects.
-pub fn put_set(marks: &[u8; OBJECTS], part: &mut [u8])
+#[tactic(auto, using(crate::proofs::block::Writing::byte_laws))]
+pub fn put_set(marks: &Marks, part: &mut [u8])
     requires { set_size ≤ length part.old }
-    ensures { part.new ≡ over (set_bytes most_objects (members marks.now)) part.old }
+    ensures { part.new ≡ over (set_bytes most_objects (members marks.now.objects)) part.old }
 {
-    let mut j: usize = 0;
-    while j < SET {
-        part[j] = set_byte(marks, j);
-        j += 1;
+    for (j, byte) in part[..SET].iter_mut().enumerate() {
+        *byte = set_byte(marks, j);
     }
 }
 
 // Writes a block.
+#[tactic(auto, using(crate::proofs::block::Writing::block_over), unfolding(crate::specs::Block::block))]
 pub fn put_block(block: Block, buffer: &mut [u8])
-    requires { Writable block × (block_size ≤ length buffer.old) }
+    requires { block_size ≤ length buffer.old }
     ensures { buffer.new ≡ over (block_bytes block) buffer.old }
 {
-    let marks = block.marks;
-    let objects = marks.objects;
-    put_numbers(
-        block.constraint,
-        two_complement(block.above, block.below),
-        buffer,
-    );
-    put_set(&objects, &mut buffer[TWO_NUMBERS..]);
+    put_numbers(block.constraint, block.two_complement(), buffer);
+    put_set(&block.marks, &mut buffer[TWO_NUMBERS..]);
 }
 
-// Writes the block that was found, code 0; or says none, and writes nothing.
-pub fn put_finding(finding: Finding, buffer: &mut [u8]) -> u32
-    requires { (finding.found ≡ true → Writable finding.block) × (block_size ≤ length buffer.old) }
+// Writes the block that was found; or answers none, and writes nothing.
+pub fn put_finding(finding: Option<Block>, buffer: &mut [u8]) -> Answer
+    requires { block_size ≤ length buffer.old }
     ensures { FindingWritten finding buffer.old result buffer.new }
 {
-    if !finding.found {
-        return NONE;
-    }
-    let block = finding.block;
+    let Some(block) = finding else {
+        return Answer::None;
+    };
     put_block(block, buffer);
-    0
+    Answer::Given
 }

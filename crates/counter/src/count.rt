@@ -1,76 +1,47 @@
 // Counting a net: the answer for one constraint, and the lowest constraint above K.
-ghost use Rattle.std.specs.Prelude.{◌≡◌};
-ghost use Rattle.counter.specs.Counting.{OneOf, SolvedIn, block_from, AllAt, Sought};
+ghost use Rattle.std.specs.Prelude.{◌≡◌, ◌<◌};
+ghost use Rattle.net.specs.NetFor.{Countable};
+ghost use Rattle.counter.specs.Counting.{SolvedIn, block_from, Sought};
 
-use crate::block::{Block, Finding};
-use crate::range::{from_least, is_above};
-use net::NetArrays;
+use crate::block::Block;
+use arrays::NetArrays;
 use settling::answer::{Solution, answer, base, nothing};
 
-// Top density, answer set and sheet of constraint c.
-pub fn one(net: NetArrays, c: usize) -> Solution
-    requires { OneOf net c }
-    ensures { SolvedIn net c result }
+// Top density, answer set and sheet of constraint c. That every constraint takes something (`Countable`) is asked here and below, and is no
+// part of the net's type: a base may be made of a net with constraints of weight 0.
+pub fn one(net: &NetArrays, c: usize) -> Solution
+    requires countable { Countable net.now }
+    requires is { c < net.now.constraints }
+    ensures { SolvedIn net.now c result }
 {
-    let ends = net.ends;
-    let weights = net.weights;
-    let takes = net.takes;
-    let start = nothing(net.objects, net.constraints, &ends, &weights, &takes);
-    answer(
-        net.objects,
-        net.constraints,
-        c,
-        &ends,
-        &weights,
-        &takes,
-        start,
-    )
+    answer(c, &nothing(net))
 }
 
 // The block of constraint c, of which the answer is known.
 pub fn block_of(c: usize, top: Solution) -> Block
     ensures { result ≡ block_from c top }
 {
-    let marks = top.marks;
     Block {
         constraint: c,
-        above: top.above,
-        below: top.below,
-        marks,
+        density: top.density,
+        marks: top.marks,
     }
 }
 
 // The block of the lowest-numbered constraint whose top density is above K, if any. The net is settled once, and each constraint is
 // answered from there.
-pub fn lowest_above(net: NetArrays, k: i32) -> Finding
-    requires { AllAt net k }
-    ensures { Sought net k result }
+#[tactic(auto, using(crate::proofs::count::Passing::none_passed))]
+pub fn lowest_above(net: &NetArrays, k: i32) -> Option<Block>
+    requires { Countable net.now }
+    ensures { Sought net.now k result }
 {
-    let bound = from_least(k);
-    let n = net.objects;
-    let m = net.constraints;
-    let ends = net.ends;
-    let weights = net.weights;
-    let takes = net.takes;
-    let from = base(n, m, &ends, &weights, &takes);
-    let mut lowest: usize = 0;
-    while lowest < m {
-        let top = answer(n, m, lowest, &ends, &weights, &takes, from);
-        if is_above(top.above, top.below, bound) {
-            let block = block_of(lowest, top);
-            return Finding { found: true, block };
+    let from = base(net);
+    // As a search over an iterator its proof did not close.
+    for c in 0..net.constraints {
+        let top = answer(c, &from);
+        if top.density > k {
+            return Some(block_of(c, top));
         }
-        lowest += 1;
     }
-    let marks = from.marks;
-    let block = Block {
-        constraint: 0,
-        above: 0,
-        below: 0,
-        marks,
-    };
-    Finding {
-        found: false,
-        block,
-    }
+    None
 }

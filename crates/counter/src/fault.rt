@@ -1,59 +1,43 @@
-// The first fault of a call: that of its drawing, then those of what is asked, in their order; 0 for none. `code` is the drawing's.
-ghost use Rattle.std.specs.Prelude.{◌≤◌, ◌<◌};
-ghost use Rattle.counter.specs.Fault.{room_fault, number_fault, range_fault, FirstOf, Named, Ranged};
+// What is wrong with what is asked: the faults behind those of the drawing, in their order. Room and need stand apart, as in the rows of
+// the definition (`room_fault`).
+#![tactic(auto, unfolding(drawing::specs::Choice::pick))]
+
+ghost use Rattle.std.specs.Prelude.{◌≡◌, ◌≤◌, OnOk};
+ghost use Rattle.codes.specs.Codes.{fault_of};
+ghost use Rattle.counter.specs.Fault.{room_fault, number_fault, range_fault, Named, Ranged};
 
 use crate::range::{LEAST, MOST};
-
-const RANGE: u32 = 10;
-
-const NUMBER: u32 = 11;
-
-const SHORT: u32 = 12;
+use codes::Fault;
 
 // Of a call that needs room.
-pub fn room_fault(code: u32, room: usize, need: usize) -> u32
-    ensures { FirstOf code (room_fault room need) (need ≤ room) result }
+pub fn room_fault(room: usize, need: usize) -> Result<(), Fault>
+    ensures is { fault_of result ≡ room_fault room need }
+    ensures fine { OnOk result (need ≤ room) }
 {
-    if code != 0 {
-        return code;
-    }
     if room < need {
-        return SHORT;
+        return Err(Fault::TooShort);
     }
-    0
+    Ok(())
 }
 
 // Of a call about constraint c of m that needs room.
-pub fn number_fault(code: u32, m: usize, c: usize, room: usize, need: usize) -> u32
-    ensures { FirstOf code (number_fault m c (room_fault room need)) (Named m c need room) result }
+pub fn number_fault(m: usize, c: usize, room: usize, need: usize) -> Result<(), Fault>
+    ensures is { fault_of result ≡ number_fault m c (room_fault room need) }
+    ensures fine { OnOk result (Named m c need room) }
 {
-    if code != 0 {
-        return code;
-    }
     if c >= m {
-        return NUMBER;
+        return Err(Fault::NoSuchConstraint);
     }
-    if room < need {
-        return SHORT;
-    }
-    0
+    room_fault(room, need)
 }
 
 // Of a call at K that needs room.
-pub fn range_fault(code: u32, k: i32, room: usize, need: usize) -> u32
-    ensures { FirstOf code (range_fault k (room_fault room need)) (Ranged k need room) result }
+pub fn range_fault(k: i32, room: usize, need: usize) -> Result<(), Fault>
+    ensures is { fault_of result ≡ range_fault k (room_fault room need) }
+    ensures fine { OnOk result (Ranged k need room) }
 {
-    if code != 0 {
-        return code;
+    if !(LEAST..=MOST).contains(&k) {
+        return Err(Fault::KOutOfRange);
     }
-    if k < LEAST {
-        return RANGE;
-    }
-    if k > MOST {
-        return RANGE;
-    }
-    if room < need {
-        return SHORT;
-    }
-    0
+    room_fault(room, need)
 }

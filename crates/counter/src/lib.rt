@@ -1,4 +1,4 @@
-// The counter: a net counted, the faults of a call, and the answer block and the sheet as bytes.
+// The counter: a net counted, the faults of what is asked, and the answer block and the sheet as bytes.
 #![tactic(auto)]
 
 pub mod block;

@@ -7,6 +7,12 @@ use native.Mathlib.Omega.{arith}
 use borrow.Author.Tests.{lt-ltb, le-ltb, le-leb, lt-leb, eq-eqb, ne_eqb}
 use Rattle.drawing.specs.Choice.{pick}
 
+-- a choice between the same
+pub pick_same : {X : Type 0} (b : Bool) (x : X) → pick b x x ≡ x
+unfolding pick
+pick_same true x = refl
+pick_same false x = refl
+
 -- what holds of both choices holds of the choice
 pub by_pick : {X : Type 0} (P : X → Type 0) (b : Bool) (x y : X) → (b ≡ true → P x) → (b ≡ false → P y) → P (pick b x y)
 unfolding pick

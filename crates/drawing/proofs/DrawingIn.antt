@@ -1,34 +1,59 @@
--- The drawing in the arrays: how many entries it has, and what stands at each number. Assumes nothing.
-use mathlib.Core.Path.{◌≡◌, sym, ap, ◌∙◌}
-use mathlib.Core.Logic.{⊎_elim}
+-- The drawing in the arrays: how many entries it has, what stands at each number, and that it is what contracts see of the entries.
+-- Assumes nothing.
+use mathlib.Core.Path.{◌≡◌, sym, ap, ap₂, ◌∙◌}
+use mathlib.Core.List.{List}
 use Prim.Native.Nat.{ℕ, ◌≤◌, ◌<◌}
-use lib.ListN.{length, get_or}
-use Rattle.drawing.specs.EntryArrays.{EntryArrays, object_in, constraint_in, drawing_in, Tidy}
+use native.Mathlib.Decide.{dec_lt}
+use native.Mathlib.Omega.{arith}
+use lib.ListN.{length, take, get_or, get_or-eq_default}
+use Rattle.std.proofs.lemmas.List.{length-take-le, get_or-take, ext_get_or}
+use Rattle.drawing.specs.declared.Object.{Object}
+use Rattle.drawing.specs.declared.Constraint.{Constraint}
+use Rattle.drawing.specs.Tabulated.{tabulated}
 use Rattle.drawing.specs.Entry.{object_at, constraint_at, kind_of, no_object, no_constraint}
-use Rattle.drawing.proofs.Tabulated.{below_or_past, length_tabulated, get_or_tabulated, get_d_past}
+use Rattle.drawing.specs.EntryArrays.{drawing_in, Tidy}
+use Rattle.drawing.proofs.Tabulated.{length_tabulated, get_or_tabulated}
 
-module _ (a : EntryArrays) (n m : ℕ) where
-  pub objects_count : length (drawing_in a n m).objects ≡ n
+module _ (n m : ℕ) (objects : List Object) (constraints : List Constraint) where
+  pub objects_count : length (drawing_in n m objects constraints).objects ≡ n
   unfolding drawing_in
-  objects_count = length_tabulated n (object_in a)
+  objects_count = length_tabulated n (λ i. get_or objects i no_object)
 
-  pub constraints_count : length (drawing_in a n m).constraints ≡ m
+  pub constraints_count : length (drawing_in n m objects constraints).constraints ≡ m
   unfolding drawing_in
-  constraints_count = length_tabulated m (constraint_in a)
+  constraints_count = length_tabulated m (λ e. get_or constraints e no_constraint)
 
-  pub object_is : (i : ℕ) → i < n → object_at (drawing_in a n m) i ≡ object_in a i
+  pub object_is : (i : ℕ) → i < n → object_at (drawing_in n m objects constraints) i ≡ get_or objects i no_object
   unfolding drawing_in
-  object_is i h = get_or_tabulated n (object_in a) no_object i h
+  object_is i h = get_or_tabulated n (λ i. get_or objects i no_object) no_object i h
 
-  pub constraint_is : (e : ℕ) → e < m → constraint_at (drawing_in a n m) e ≡ constraint_in a e
+  pub constraint_is : (e : ℕ) → e < m → constraint_at (drawing_in n m objects constraints) e ≡ get_or constraints e no_constraint
   unfolding drawing_in
-  constraint_is e h = get_or_tabulated m (constraint_in a) no_constraint e h
+  constraint_is e h = get_or_tabulated m (λ e. get_or constraints e no_constraint) no_constraint e h
 
   -- the kind of any object, or 0 where there is none
-  pub kind_is : Tidy n m a → (i : ℕ) → kind_of (drawing_in a n m) i ≡ get_or a.object_kinds i 0
-  unfolding drawing_in
-  kind_is t i =
-      ⊎_elim
-      (λ (l : i < n). ap (λ o. o.kind) (get_or_tabulated n (object_in a) no_object i l))
-      (λ (g : n ≤ i). ap (λ o. o.kind) (get_d_past n (object_in a) no_object i g) ∙ sym (t.object_kinds_past.zeros i g))
-      (below_or_past i n)
+  pub kind_is : Tidy n m objects constraints → (i : ℕ) → kind_of (drawing_in n m objects constraints) i ≡ (get_or objects i no_object).kind
+  kind_is tidy i =
+      ap (λ (o : Object). o.kind)
+      (elim (dec_lt i n) [
+        | yes l ↦ object_is i l
+        | no g ↦
+            get_or-eq_default (drawing_in n m objects constraints).objects no_object {n = i} (omega (arith, objects_count))
+            ∙ sym (tidy.objects_past i (omega arith))
+      ])
+
+-- what stands at the front of an array, number by number, is what contracts see of a `Front`
+front_is : {A : Type 0} (n : ℕ) (l : List A) (d : A) → n ≤ length l → tabulated n (λ i. get_or l i d) ≡ take n l
+front_is n l d few =
+    ext_get_or d (tabulated n (λ i. get_or l i d)) (take n l) (length_tabulated n (λ i. get_or l i d) ∙ sym (length-take-le n l few))
+    (λ i h.
+    let below : i < n = omega (arith, length_tabulated n (λ i. get_or l i d)) in
+    get_or_tabulated n (λ i. get_or l i d) d i below ∙ sym (get_or-take n l i d below))
+
+-- so the drawing in the arrays is what they see of the entries
+pub entries_seen : (n m : ℕ) (objects : List Object) (constraints : List Constraint) → n ≤ length objects → m ≤ length constraints
+    → drawing_in n m objects constraints ≡ record { objects = take n objects; constraints = take m constraints }
+unfolding drawing_in
+entries_seen n m objects constraints few_objects few_constraints =
+    ap₂ (λ (os : List Object) (cs : List Constraint). record { objects = os; constraints = cs }) (front_is n objects no_object few_objects)
+    (front_is m constraints no_constraint few_constraints)

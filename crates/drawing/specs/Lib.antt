@@ -7,6 +7,8 @@ pub mod Fault
 pub mod Weight
 pub mod Sound
 pub mod Samples
--- what only states contracts: what the arrays hold
-pub mod EntryArrays
+-- what only states contracts: the kinds as the code has them, and what the arrays of weights hold
+pub mod Kinds
 pub mod WeightArrays
+-- what only states laws: a drawing at the front of two arrays
+pub mod EntryArrays

@@ -1,58 +1,42 @@
 // The weights in force: the stated weight in the place of the table weight.
-ghost use Rattle.std.specs.Prelude.{◌≡◌, ◌≤◌, length};
-ghost use Rattle.limits.specs.Limits.{most_objects, most_constraints};
-ghost use Rattle.drawing.specs.Weight.{in_force};
-ghost use Rattle.drawing.specs.WeightArrays.{Filled, object_value, constraint_value};
-ghost use Rattle.drawing.specs.EntryArrays.{ZeroFrom};
+ghost use Rattle.std.specs.Prelude.{◌≡◌, ◌<◌, ◌≤◌, length};
+ghost use Rattle.drawing.specs.Weight.{in_force, object_weight, constraint_weight};
 
-use crate::kind_of;
+use crate::entries::Entries;
 use crate::table::{object_table, table_weight};
-use limits::{CONSTRAINTS, ENDS, OBJECTS};
 
-// The stated weight, or the table weight where none is stated.
+// The stated weight, or the table weight where none is stated; 0 is none, as the definition has it.
+#[tactic(auto, using(crate::proofs::Choice::tests), unfolding(crate::specs::Weight::in_force, crate::specs::Choice::pick))]
 pub fn in_force(stated: u8, table: u8) -> u8
     ensures { result ≡ in_force stated table }
 {
     if stated == 0 { table } else { stated }
 }
 
-// The weights of n objects.
-pub fn weigh_objects(
-    n: usize,
-    kinds: &[u8; OBJECTS],
-    stated: &[u8; OBJECTS],
-    weights: &mut [u8; OBJECTS],
-)
-    requires { (n ≤ most_objects) × (ZeroFrom most_objects 0 weights.old) }
-    ensures { Filled most_objects n (object_value kinds.now stated.now) weights.new }
-{
-    let mut i: usize = 0;
-    while i < n {
-        weights[i] = in_force(stated[i], object_table(kinds[i]));
-        i += 1;
+impl Entries {
+    // The weight of object i, 0 where there is none, as in the arrays of a net.
+    #[tactic(auto, unfolding(crate::specs::Weight::object_weight))]
+    pub fn object_weight(&self, i: usize) -> u8
+        ensures weight { i < length self.now.objects → result ≡ object_weight self.now i }
+        ensures none { length self.now.objects ≤ i → result ≡ 0 }
+    {
+        let objects = self.objects.as_slice();
+        objects
+            .get(i)
+            .map_or(0, |o| in_force(o.stated, object_table(o.kind)))
     }
-}
 
-// The weights of m constraints, each looked up by the kinds of the objects at its ends.
-pub fn weigh_constraints(
-    m: usize,
-    ends: &[u16; ENDS],
-    object_kinds: &[u8; OBJECTS],
-    kinds: &[u8; CONSTRAINTS],
-    stated: &[u8; CONSTRAINTS],
-    weights: &mut [u8; CONSTRAINTS],
-)
-    requires { (m ≤ most_constraints) × (length object_kinds.now ≡ most_objects)
-        × (ZeroFrom most_constraints 0 weights.old) }
-    ensures { Filled most_constraints m
-        (constraint_value ends.now object_kinds.now kinds.now stated.now)
-        weights.new }
-{
-    let mut e: usize = 0;
-    while e < m {
-        let a = kind_of(object_kinds, ends[2 * e]);
-        let b = kind_of(object_kinds, ends[2 * e + 1]);
-        weights[e] = in_force(stated[e], table_weight(kinds[e], a, b));
-        e += 1;
+    // The weight of constraint e, looked up by the kinds of the objects at its ends; 0 where there is none,
+    // as in the arrays of a net.
+    #[tactic(auto, unfolding(crate::specs::Weight::constraint_weight))]
+    pub fn constraint_weight(&self, e: usize) -> u8
+        ensures weight { e < length self.now.constraints → result ≡ constraint_weight self.now e }
+        ensures none { length self.now.constraints ≤ e → result ≡ 0 }
+    {
+        let constraints = self.constraints.as_slice();
+        constraints.get(e).map_or(0, |c| {
+            let table = table_weight(c.kind, self.kind_of(c.first), self.kind_of(c.second));
+            in_force(c.stated, table.unwrap_or(0))
+        })
     }
 }

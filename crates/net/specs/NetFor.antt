@@ -1,41 +1,58 @@
--- What was read of a drawing, as numbers and as the arrays of a net, and the reading that it stands for. Assumes nothing.
-use Rattle.std.specs.Prelude.{◌≡◌, ℕ, ◌≤◌, ◌<◌, length}
-use Rattle.limits.specs.Limits.{most_objects, most_constraints}
-use Rattle.density.specs.Net.{Net}
+-- What was read of a drawing, as counts and as the arrays of a net, and the reading that it stands for. Assumes nothing.
+use Rattle.std.specs.Prelude.{◌≡◌, List, ℕ, ◌*◌, ◌≤◌, ◌<◌, length, Result, Ok, Err}
+use Rattle.limits.specs.Limits.{most_objects, most_constraints, most_ends}
+use Rattle.codes.specs.declared.Fault.{Fault}
+use Rattle.codes.specs.Codes.{fault_number}
 use Rattle.drawing.specs.Entry.{Drawing}
 use Rattle.records.specs.Read.{Reading, refused, accepted}
+use Rattle.density.specs.Net.{Side}
 use Rattle.arrays.specs.At.{at}
-use Rattle.arrays.specs.Arrays.{net_in, Fair}
-use Rattle.net.specs.declared.NetArrays.{NetArrays}
-use Rattle.net.specs.Weighed.{weighed}
+use Rattle.arrays.specs.Arrays.{place}
+use Rattle.arrays.specs.declared.NetArrays.{NetArrays}
+use Rattle.arrays.specs.Held.{net_held}
+use Rattle.net.specs.declared.Counts.{Counts}
+use Rattle.net.specs.Weighed.{end_of, weighed}
 
--- the net that the arrays hold
-abbrev pub net_held : NetArrays → Net
-net_held a = net_in a.objects a.constraints a.ends a.weights a.takes
-
--- within the limits, and every constraint takes something
+-- every constraint of the net takes something
 pub record Countable (a : NetArrays) : Type 0 where
-  pub fair : Fair a.objects a.constraints a.ends a.weights a.takes
   pub heavy : (e : ℕ) → e < a.constraints → 0 < at a.takes e
 
--- ---- what was read: the code, n objects and m constraints stand for a reading
+-- refused with the number of a fault
+abbrev pub RefusedWith : Reading → Fault → Type 0
+RefusedWith x f = x ≡ refused (fault_number f)
 
--- accepted, with a drawing of n objects and m constraints
-pub record AcceptedAs (x : Reading) (n m : ℕ) : Type 0 where
+-- accepted, with a drawing of so many objects and constraints, within the limits
+pub record AcceptedAs (x : Reading) (c : Counts) : Type 0 where
   pub drawing : Drawing
   pub reading : x ≡ accepted drawing
-  pub objects_are : length drawing.objects ≡ n
-  pub constraints_are : length drawing.constraints ≡ m
+  pub objects_are : length drawing.objects ≡ c.objects
+  pub constraints_are : length drawing.constraints ≡ c.constraints
+  pub few_objects : c.objects ≤ most_objects
+  pub few_constraints : c.constraints ≤ most_constraints
 
--- refused with the code, or, at code 0, accepted
-pub record CountsFor (x : Reading) (code n m : ℕ) : Type 0 where
-  pub few_objects : n ≤ most_objects
-  pub few_constraints : m ≤ most_constraints
-  pub refused_with : (code ≡ 0 → ⊥) → x ≡ refused code
-  pub accepted_as : code ≡ 0 → AcceptedAs x n m
+-- accepted, with a drawing whose net the arrays hold, and it can be counted
+pub record HeldFor (x : Reading) (a : NetArrays) : Type 0 where
+  pub drawing : Drawing
+  pub reading : x ≡ accepted drawing
+  pub net_is : weighed drawing ≡ net_held a
+  pub countable : Countable a
 
--- the arrays stand for a reading: they hold the net of the drawing that was accepted, and it can be counted
-pub record NetFor (x : Reading) (a : NetArrays) : Type 0 where
-  pub counts_for : CountsFor x a.code a.objects a.constraints
-  pub net_is : (z : a.code ≡ 0) → weighed (counts_for.accepted_as z).drawing ≡ net_held a
-  pub countable : a.code ≡ 0 → Countable a
+-- the counts, or the fault, stand for a reading
+abbrev pub CountsFor : Reading → Result Counts Fault → Type 0
+CountsFor x (Ok c) = AcceptedAs x c
+CountsFor x (Err f) = RefusedWith x f
+
+-- the arrays, or the fault, stand for a reading
+abbrev pub NetFor : Reading → Result NetArrays Fault → Type 0
+NetFor x (Ok a) = HeldFor x a
+NetFor x (Err f) = RefusedWith x f
+
+-- the ends of the first m constraints of a drawing by place, and zeros past them
+pub record EndsUpTo (d : Drawing) (m : ℕ) (ends : List ℕ) : Type 0 where
+  pub long : length ends ≡ most_ends
+  pub are : (i : Side) (e : ℕ) → e < m → at ends (place i e) ≡ end_of d i e
+  pub past : (k : ℕ) → 2 * m ≤ k → at ends k ≡ 0
+
+-- the ends of all
+abbrev pub EndsOf : Drawing → List ℕ → Type 0
+EndsOf d ends = EndsUpTo d (length d.constraints) ends

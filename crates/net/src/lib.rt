@@ -1,73 +1,78 @@
 // The one door from a drawing's bytes to its net: read, or read and weighed.
 #![tactic(auto)]
 
+ghost use Rattle.std.specs.Prelude.{◌≡◌, ◌≤◌, length};
+ghost use Rattle.limits.specs.Limits.{most_objects, most_constraints};
 ghost use Rattle.records.specs.Read.{read};
-ghost use Rattle.net.specs.NetFor.{CountsFor, NetFor};
+ghost use Rattle.net.specs.NetFor.{CountsFor, NetFor, EndsOf};
 
-use drawing::blank::{no_constraints, no_ends, no_objects};
-use drawing::weigh;
-use limits::{CONSTRAINTS, ENDS, OBJECTS};
-use records::Counts;
-use records::reader::fill;
+use arrays::NetArrays;
+use codes::Fault;
+use drawing::entries::Entries;
+use drawing::{Weights, weigh};
+use limits::ENDS;
+use records::read;
 
-// What was read of a drawing: the number of its refusal, 0 if accepted, and its net. Constraint e has its ends at 2e and 2e + 1; the
-// weights of the objects and what each constraint takes are those in force.
+// How many objects and constraints a drawing has.
 #[derive(Clone, Copy)]
-pub struct NetArrays {
-    pub code: u32,
+pub struct Counts {
     pub objects: usize,
     pub constraints: usize,
-    pub ends: [u16; ENDS],
-    pub weights: [u8; OBJECTS],
-    pub takes: [u8; CONSTRAINTS],
 }
 
-// How many objects and constraints a drawing has, or its refusal.
-pub fn counts_of(drawing: &[u8]) -> Counts
-    ensures { CountsFor (read drawing.now) result.code result.objects result.constraints }
-{
-    let entries = records::read(drawing);
-    Counts {
-        code: entries.code,
-        objects: entries.objects,
-        constraints: entries.constraints,
+impl Counts {
+    fn of(entries: &Entries) -> Self
+        ensures objects { result.objects ≡ length entries.now.objects }
+        ensures constraints { result.constraints ≡ length entries.now.constraints }
+        ensures few { (result.objects ≤ most_objects) × (result.constraints ≤ most_constraints) }
+    {
+        Counts {
+            objects: entries.objects.len(),
+            constraints: entries.constraints.len(),
+        }
     }
 }
 
-// The net of a drawing, or its refusal.
-pub fn net_of(drawing: &[u8]) -> NetArrays
+// How many objects and constraints a drawing has, or why it is refused.
+pub fn counts_of(drawing: &[u8]) -> Result<Counts, Fault>
+    ensures { CountsFor (read drawing.now) result }
+{
+    let entries = read(drawing)?;
+    Ok(Counts::of(&entries))
+}
+
+// The net of a drawing, or why it is refused.
+pub fn net_of(drawing: &[u8]) -> Result<NetArrays, Fault>
     ensures { NetFor (read drawing.now) result }
 {
-    let mut ends = no_ends();
-    let mut object_kinds = no_objects();
-    let mut object_stated = no_objects();
-    let mut constraint_kinds = no_constraints();
-    let mut constraint_stated = no_constraints();
-    let counts = fill(
-        drawing,
-        &mut ends,
-        &mut object_kinds,
-        &mut object_stated,
-        &mut constraint_kinds,
-        &mut constraint_stated,
-    );
-    let in_force = weigh(
-        counts.objects,
-        counts.constraints,
-        &ends,
-        &object_kinds,
-        &object_stated,
-        &constraint_kinds,
-        &constraint_stated,
-    );
-    let weights = in_force.objects;
-    let takes = in_force.constraints;
-    NetArrays {
-        code: counts.code,
-        objects: counts.objects,
-        constraints: counts.constraints,
+    let entries = read(drawing)?;
+    let ends = ends_by_place(&entries);
+    let Weights {
+        objects: weights,
+        constraints: takes,
+    } = weigh(&entries);
+    let Counts {
+        objects,
+        constraints,
+    } = Counts::of(&entries);
+    Ok(NetArrays {
+        objects,
+        constraints,
         ends,
         weights,
         takes,
+    })
+}
+
+// The ends of the constraints by place: those of constraint e at 2e and 2e + 1.
+#[tactic(auto, using(crate::proofs::Ends::ends_more))]
+fn ends_by_place(entries: &Entries) -> [u16; ENDS]
+    ensures { EndsOf entries.now result }
+{
+    let mut ends = [0u16; ENDS];
+    for (e, c) in entries.constraints.as_slice().iter().enumerate() {
+        ends[2 * e] = c.first;
+        ends[2 * e + 1] = c.second;
     }
+    ends
 }

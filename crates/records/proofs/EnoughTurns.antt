@@ -31,3 +31,11 @@ enough s zero (suc j) at d p q = sym (ap (λ (r : Record). read_on s at d r (rea
 enough s (suc k) zero at d p q = ap (λ (r : Record). read_on s at d r (read_from k s)) (none_past s at (omega arith))
 enough s (suc k) (suc j) at d p q =
     same_on s at d (record_at s at) (read_from k s) (read_from j s) (λ at' d' h. enough s k j at' d' (omega arith) (omega arith))
+
+-- so reading on is one record, and reading on behind it with as many turns
+pub turn : (s : List ℕ) (at : ℕ) (d : Drawing)
+    → read_from (suc (length s)) s at d ≡ read_on s at d (record_at s at) (read_from (suc (length s)) s)
+unfolding read_from
+turn s at d =
+    same_on s at d (record_at s at) (read_from (length s) s) (read_from (suc (length s)) s)
+    (λ at' d' h. enough s (length s) (suc (length s)) at' d' (omega arith) (omega arith))

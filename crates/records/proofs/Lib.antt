@@ -1,6 +1,6 @@
--- what other crates cite: a reading, what the reader answers, and longer bytes
+-- what other crates cite: a reading, and longer bytes
 pub mod Reading
-pub mod ReadInto
+pub mod Accepted
 pub mod Prefix
 -- a theorem that no other crate cites, for a reader
 pub mod EnoughTurns

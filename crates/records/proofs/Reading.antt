@@ -1,12 +1,12 @@
 -- What a reading comes to: refused with one of 01's numbers, or accepted with a sound drawing. Assumes nothing.
 use mathlib.Core.Path.{◌≡◌, refl, sym, subst}
 use mathlib.Core.List.{List, [], ◌∷◌, ◌++◌}
-use mathlib.Core.Logic.{⊎_elim}
 use Prim.Native.Nat.{ℕ, zero, suc, ◌≤◌, ◌<◌, zero-le}
 use native.Mathlib.Omega.{arith}
 use lib.Dec.{lit≤}
 use lib.ListN.{length, get_or, length-append, get_or-append}
-use lib.Seq.{get_or_at}
+use borrow.Author.Count.{below_more}
+use lib.Seq.{get_or-append_seam}
 use Rattle.drawing.specs.declared.Object.{Object}
 use Rattle.drawing.specs.declared.Constraint.{Constraint}
 use Rattle.drawing.specs.Entry.{Drawing, kind_of, no_object, no_constraint, empty_drawing, with_object, with_constraint}
@@ -17,16 +17,15 @@ use Rattle.drawing.specs.Sound.{SoundObject, SoundConstraint, SoundDrawing, Next
 use Rattle.drawing.proofs.Choice.{row_bounds}
 use Rattle.drawing.proofs.Faults.{object_most, constraint_most, object_sound, constraint_sound}
 use Rattle.records.proofs.RecordAt.{RecordFacts, record_facts}
-use Rattle.drawing.proofs.Tabulated.{below_or_past}
 
 -- what holds of every entry, and of one more behind them
 one_more : {A : Type 0} (P : A → Type 0) (l : List A) (x d : A) → ((i : ℕ) → i < length l → P (get_or l i d)) → P x
     → (i : ℕ) → i < length (l ++ (x ∷ [])) → P (get_or (l ++ (x ∷ [])) i d)
 one_more P l x d all here i h =
-    ⊎_elim
-    (λ (b : i < length l). subst P (sym (get_or-append l (x ∷ []) d i b)) (all i b))
-    (λ (g : length l ≤ i). subst P (sym (get_or_at l x [] d i (omega (arith, length-append l (x ∷ []))))) here)
-    (below_or_past i (length l))
+    below_more (λ (k : ℕ). P (get_or (l ++ (x ∷ [])) k d)) (length l)
+    (λ (k : ℕ) (b : k < length l). subst P (sym (get_or-append l (x ∷ []) d k b)) (all k b))
+    (subst P (sym (get_or-append_seam l x [] d)) here)
+    i (omega (arith, length-append l (x ∷ [])))
 
 empty_sound : SoundDrawing empty_drawing
 empty_sound = record {

@@ -1,3 +1,2 @@
--- one turn of reading, and an entry stored behind the others
+-- one turn of reading
 mod Turn
-mod Stored

@@ -3,6 +3,5 @@ pub mod Format
 pub mod Read
 pub mod Longest
 pub mod Samples
--- what only states contracts: the cases of the code's enum, and what the arrays hold
-pub mod Found
-pub mod ReadInto
+-- what only states contracts: what the code's enums mean
+pub mod Meant

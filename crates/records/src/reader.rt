@@ -1,14 +1,16 @@
 // Reading a drawing, record by record.
-ghost use Rattle.std.specs.Prelude.{◌≡◌};
-ghost use Rattle.drawing.specs.EntryArrays.{entry_arrays, Blank};
-ghost use Rattle.records.specs.ReadInto.{ReadInto};
-ghost use Rattle.records.specs.Read.{behind_fault};
+ghost use Rattle.std.specs.Prelude.{◌≡◌, OnOk, OnErr};
+ghost use Rattle.codes.specs.Codes.{fault_of};
+ghost use Rattle.drawing.specs.Entry.{with_object, with_constraint};
+ghost use Rattle.drawing.specs.Fault.{object_fault_in, constraint_fault_in};
+ghost use Rattle.records.specs.Read.{read};
+ghost use Rattle.records.specs.Meant.{reading_of};
 
-use crate::format::{CONSTRAINT_BODY, HEAD, OBJECT_BODY, record_at};
-use crate::{Counts, Found};
+use crate::format::{CONSTRAINT_BODY, HEAD, OBJECT_BODY, Record, record_at};
+use codes::Fault;
+use drawing::entries::Entries;
 use drawing::fault::{constraint_fault, object_fault};
-use drawing::kind_of;
-use limits::{CONSTRAINTS, ENDS, OBJECTS};
+use drawing::{Constraint, Object};
 
 // The bytes of an object record, a constraint record and an end record.
 const OBJECT_RECORD: usize = HEAD + OBJECT_BODY;
@@ -17,74 +19,58 @@ const CONSTRAINT_RECORD: usize = HEAD + CONSTRAINT_BODY;
 
 const END_RECORD: usize = HEAD;
 
-// Reads the records one after the other into arrays that are zero at the start.
-pub fn fill(
-    s: &[u8],
-    ends: &mut [u16; ENDS],
-    object_kinds: &mut [u8; OBJECTS],
-    object_stated: &mut [u8; OBJECTS],
-    constraint_kinds: &mut [u8; CONSTRAINTS],
-    constraint_stated: &mut [u8; CONSTRAINTS],
-) -> Counts
-    requires { Blank (entry_arrays ends.old object_kinds.old object_stated.old constraint_kinds.old
-        constraint_stated.old) }
-    ensures { ReadInto s.now result.code result.objects result.constraints
-        (entry_arrays ends.new object_kinds.new object_stated.new
-        constraint_kinds.new constraint_stated.new) }
+// Reads a drawing.
+#[tactic(auto, using(crate::proofs::reader::Turn::start_and_end))]
+pub fn read(bytes: &[u8]) -> Result<Entries, Fault>
+    ensures { reading_of result ≡ read bytes.now }
 {
-    let mut at: usize = 0;
-    let mut n: usize = 0;
-    let mut m: usize = 0;
+    let mut entries = Entries::new();
+    // A cursor, which goes on by as many bytes as the record has.
+    let mut at = 0;
     loop {
-        match record_at(s, at) {
-            Found::Faulty(fault) => {
-                return ended(fault, n, m);
-            }
-            Found::Object(o) => {
-                let fault = object_fault(n, m, o);
-                if fault != 0 {
-                    return ended(fault, n, m);
-                }
-                object_kinds[n] = o.kind;
-                object_stated[n] = o.stated;
-                n += 1;
+        match record_at(bytes, at)? {
+            Record::Object(o) => {
+                add_object(&mut entries, o)?;
                 at += OBJECT_RECORD;
             }
-            Found::Constraint(c) => {
-                let a = kind_of(object_kinds, c.first);
-                let b = kind_of(object_kinds, c.second);
-                let fault = constraint_fault(n, m, a, b, c);
-                if fault != 0 {
-                    return ended(fault, n, m);
-                }
-                ends[2 * m] = c.first;
-                ends[2 * m + 1] = c.second;
-                constraint_kinds[m] = c.kind;
-                constraint_stated[m] = c.stated;
-                m += 1;
+            Record::Constraint(c) => {
+                add_constraint(&mut entries, c)?;
                 at += CONSTRAINT_RECORD;
             }
-            Found::End => {
-                return ended(behind(s, at + END_RECORD), n, m);
+            Record::End => {
+                if at + END_RECORD < bytes.len() {
+                    return Err(Fault::BytesBehindEnd);
+                }
+                return Ok(entries);
             }
         }
     }
 }
 
-// The fault of bytes behind the end record, which stops at a position.
-fn behind(s: &[u8], at: usize) -> u32
-    ensures { result ≡ behind_fault s.now at }
+// An object behind the entries read so far, if it may come there.
+fn add_object(entries: &mut Entries, o: Object) -> Result<(), Fault>
+    ensures fault { fault_of result ≡ object_fault_in entries.old o }
+    ensures added { OnOk result (entries.new ≡ with_object entries.old o) }
+    ensures unchanged { OnErr result (entries.new ≡ entries.old) }
 {
-    if at < s.len() { 9 } else { 0 }
+    let n = entries.objects.len();
+    let m = entries.constraints.len();
+    object_fault(n, m, o)?;
+    entries.objects.push(o);
+    Ok(())
 }
 
-// How reading ended.
-fn ended(code: u32, objects: usize, constraints: usize) -> Counts
-    ensures { result ≡ record { code = code; objects = objects; constraints = constraints } }
+// A constraint behind the entries read so far, if it may come there.
+fn add_constraint(entries: &mut Entries, c: Constraint) -> Result<(), Fault>
+    ensures fault { fault_of result ≡ constraint_fault_in entries.old c }
+    ensures added { OnOk result (entries.new ≡ with_constraint entries.old c) }
+    ensures unchanged { OnErr result (entries.new ≡ entries.old) }
 {
-    Counts {
-        code,
-        objects,
-        constraints,
-    }
+    let n = entries.objects.len();
+    let m = entries.constraints.len();
+    let first = entries.kind_of(c.first);
+    let second = entries.kind_of(c.second);
+    constraint_fault(n, m, first, second, c)?;
+    entries.constraints.push(c);
+    Ok(())
 }

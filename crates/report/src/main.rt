@@ -4,12 +4,11 @@
 #![tactic(auto)]
 
 ghost use Rattle.std.specs.Prelude.{◌≤◌, length, IfOk};
-ghost use Rattle.limits.specs.Limits.{most_objects};
 ghost use Rattle.net.specs.NetFor.{Countable};
 
-use counter::range::is_above;
-use limits::OBJECTS;
-use net::{NetArrays, net_of};
+use arrays::NetArrays;
+use net::net_of;
+use routes::search::Marks;
 use settling::answer::{answer, base};
 use std::io;
 use std::io::Read;
@@ -17,8 +16,8 @@ use std::io::Read;
 // 01: "6,000 bytes at most; that prefix gives every longer input its refusal": `longer_input_refused`, proofs/Input.antt.
 const INPUT: usize = 6000;
 
-// K = -3, as K + 64.
-const OVERCONSTRAINED: usize = 61;
+// K: above it a set is overconstrained.
+const OVERCONSTRAINED: i32 = -3;
 
 fn main(rt: HostRuntime) -> io::Result<()> {
     let mut input = [0u8; INPUT];
@@ -30,6 +29,7 @@ fn main(rt: HostRuntime) -> io::Result<()> {
 fn read_full<R: Read + Drop>(mut reader: R, buffer: &mut [u8]) -> io::Result<usize>
     ensures { IfOk result (λ n. n ≤ length buffer.new) }
 {
+    // How often is not known before: a read may bring fewer bytes than there are.
     let mut got: usize = 0;
     while got < buffer.len() {
         let more = reader.read(&mut buffer[got..])?;
@@ -42,72 +42,47 @@ fn read_full<R: Read + Drop>(mut reader: R, buffer: &mut [u8]) -> io::Result<usi
 }
 
 fn report(rt: &impl Print, drawing: &[u8]) -> io::Result<()> {
-    let net = net_of(drawing);
-    if net.code != 0 {
-        return print!(rt; "refused {}\n", net.code);
+    match net_of(drawing) {
+        Ok(net) => {
+            println!(rt; "objects {} constraints {}", net.objects, net.constraints)?;
+            let lowest = say_lines(rt, &net)?;
+            say_last(rt, lowest)
+        }
+        Err(fault) => println!(rt; "refused {fault}"),
     }
-    print!(rt; "objects {} constraints {}\n", net.objects, net.constraints)?;
-    let lowest = say_lines(rt, net)?;
-    say_last(rt, net.constraints, lowest)
 }
 
-// A line for each constraint. Answers the lowest-numbered one above K, or the number of constraints.
-fn say_lines(rt: &impl Print, net: NetArrays) -> io::Result<usize>
-    requires { Countable net }
+// A line for each constraint. Answers the lowest-numbered one above K, if any.
+fn say_lines(rt: &impl Print, net: &NetArrays) -> io::Result<Option<usize>>
+    requires { Countable net.now }
 {
-    let n = net.objects;
-    let m = net.constraints;
-    let ends = net.ends;
-    let weights = net.weights;
-    let takes = net.takes;
-    let from = base(n, m, &ends, &weights, &takes);
-    let mut lowest = m;
-    let mut c: usize = 0;
-    while c < m {
-        let top = answer(n, m, c, &ends, &weights, &takes, from);
-        if lowest == m {
-            if is_above(top.above, top.below, OVERCONSTRAINED) {
-                lowest = c;
-            }
+    let from = base(net);
+    let mut lowest = None;
+    for c in 0..net.constraints {
+        let top = answer(c, &from);
+        if lowest.is_none() && top.density > OVERCONSTRAINED {
+            lowest = Some(c);
         }
-        let marks = top.marks;
-        let set = marks.objects;
-        print!(rt; "{c} ")?;
-        say_density(rt, top.above, top.below)?;
-        say_members(rt, n, &set)?;
-        print!(rt; "\n")?;
-        c += 1;
+        print!(rt; "{c} {}", top.density)?;
+        say_members(rt, net.objects, &top.marks)?;
+        println!(rt)?;
     }
     Ok(lowest)
 }
 
-// A density, above less below.
-fn say_density(rt: &impl Print, above: usize, below: usize) -> io::Result<()> {
-    if above < below {
-        print!(rt; "-{}", below - above)
-    } else {
-        print!(rt; "{}", above - below)
-    }
-}
-
-// The members of a set, ascending.
-fn say_members(rt: &impl Print, n: usize, set: &[u8; OBJECTS]) -> io::Result<()>
-    requires { n ≤ most_objects }
-{
-    let mut v: usize = 0;
-    while v < n {
-        if set[v] > 0 {
+// The members of a set of the first n objects, ascending.
+fn say_members(rt: &impl Print, n: usize, set: &Marks) -> io::Result<()> {
+    for (v, mark) in set.objects.iter().take(n).enumerate() {
+        if *mark > 0 {
             print!(rt; " {v}")?;
         }
-        v += 1;
     }
     Ok(())
 }
 
-fn say_last(rt: &impl Print, m: usize, lowest: usize) -> io::Result<()> {
-    if lowest == m {
-        print!(rt; "K -3 none\n")
-    } else {
-        print!(rt; "K -3 dense {lowest}\n")
+fn say_last(rt: &impl Print, lowest: Option<usize>) -> io::Result<()> {
+    match lowest {
+        Some(c) => println!(rt; "K {OVERCONSTRAINED} dense {c}"),
+        None => println!(rt; "K {OVERCONSTRAINED} none"),
     }
 }

@@ -1,5 +1,4 @@
 -- what other crates cite
-pub mod Cases
 pub mod AlongChain
 pub mod Sums
 pub mod Places

@@ -1,10 +1,9 @@
 -- Laws of marks: one mark more, and marks that stay. Assumes nothing.
-use mathlib.Core.Path.{◌≡◌, refl, ap, ◌∙◌}
-use mathlib.Core.Logic.{⊎_elim}
+use mathlib.Core.Path.{◌≡◌, refl, ap}
 use mathlib.Core.List.{List}
 use Prim.Native.Nat.{ℕ, ◌+◌, ◌<◌, ◌≤◌}
 use native.Mathlib.Omega.{arith}
-use lib.ListN.{length, set, length-set}
+use lib.ListN.{length, set}
 use lib.Dec.{eqb}
 use Rattle.density.specs.Sum.{counted}
 use Rattle.density.proofs.Sums.{counted_le, sum_most}
@@ -12,15 +11,14 @@ use Rattle.limits.specs.Limits.{most_objects}
 use Rattle.arrays.specs.At.{at}
 use Rattle.routes.specs.Marked.{Marked, Clear}
 use Rattle.routes.specs.State.{State, state, Sized, Grown, clears, unmarked}
-use Rattle.routes.proofs.Cases.{same_or_not}
 use Rattle.routes.proofs.Sums.{counted_here, sum_differ_at}
-use Rattle.routes.proofs.Places.{at_set_here, at_set_off}
+use Rattle.arrays.proofs.Stores.{at_set_here, at_set_off}
 
 pub marked_here : (l : List ℕ) (x : ℕ) → x < length l → Marked (set l x 1) x
 marked_here l x b = omega (arith, at_set_here l x 1 x b refl)
 
 marked_still : (l : List ℕ) (x y : ℕ) → x < length l → Marked l y → Marked (set l x 1) y
-marked_still l x y b h = ⊎_elim (λ e. omega (arith, at_set_here l x 1 y b e)) (λ n. omega (arith, at_set_off l x 1 y n)) (same_or_not y x)
+marked_still l x y b h = grind (arith, at_set_here, at_set_off)
 
 clears_marked : (k : ℕ) (l : List ℕ) (x : ℕ) → x < k → x < length l → Clear l x → clears k (set l x 1) + 1 ≡ clears k l
 unfolding clears
@@ -45,9 +43,6 @@ mark_object v s = state (set s.objects v 1) s.constraints s.shares s.room
 abbrev pub mark_constraint : ℕ → State → State
 mark_constraint e s = state s.objects (set s.constraints e 1) s.shares s.room
 
-pub grown_same : (s : State) → Grown s s
-grown_same s = record { objects = λ v h. h; constraints = λ e h. h }
-
 pub grown_then : {s t u : State} → Grown s t → Grown t u → Grown s u
 grown_then g h = record {
   objects = λ v p. h.objects v (g.objects v p);
@@ -59,22 +54,6 @@ grown_object s v b = record { objects = λ u h. marked_still s.objects v u b h; 
 
 pub grown_constraint : (s : State) (e : ℕ) → e < length s.constraints → Grown s (mark_constraint e s)
 grown_constraint s e b = record { objects = λ v h. h; constraints = λ x h. marked_still s.constraints e x b h }
-
-pub sized_object : (s : State) (v : ℕ) → Sized s → Sized (mark_object v s)
-sized_object s v z = record {
-  objects = length-set s.objects v 1 ∙ z.objects;
-  constraints = z.constraints;
-  shares = z.shares;
-  room = z.room;
-}
-
-pub sized_constraint : (s : State) (e : ℕ) → Sized s → Sized (mark_constraint e s)
-sized_constraint s e z = record {
-  objects = z.objects;
-  constraints = length-set s.constraints e 1 ∙ z.constraints;
-  shares = z.shares;
-  room = z.room;
-}
 
 pub unmarked_object : (m : ℕ) (s : State) (v : ℕ) → Sized s → v < most_objects → Clear s.objects v → unmarked m (mark_object v s) + 1 ≡ unmarked m s
 unmarked_object m s v z b h = omega (arith, clears_marked most_objects s.objects v b (omega (arith, z.objects)) h)

@@ -1,6 +1,5 @@
 -- Laws of a route that was found. Assumes nothing.
 use mathlib.Core.Path.{◌≡◌, sym, ap, ap₂, subst, ◌∙◌}
-use mathlib.Core.Logic.{⊎_elim}
 use mathlib.Core.List.{List}
 use Prim.Native.Nat.{ℕ, ◌+◌, ◌-◌, ◌*◌, ◌/◌, ◌<◌, ◌≤◌}
 use native.Mathlib.Omega.{arith}
@@ -12,9 +11,9 @@ use Rattle.arrays.specs.At.{at}
 use Rattle.routes.specs.Marked.{Clear}
 use Rattle.routes.specs.State.{State, state, Sized, Unmoved, Grown, Bounded, both_shares, load}
 use Rattle.routes.specs.Search.{Moved, lowered, raised, shifted}
-use Rattle.routes.proofs.Cases.{same_or_not}
 use Rattle.routes.proofs.Sums.{counted_here, counted_off}
-use Rattle.routes.proofs.Places.{at_set_here, at_set_off, load_raised, load_lowered, both_raised, both_lowered, share_le_load}
+use Rattle.arrays.proofs.Stores.{at_set_here, at_set_off}
+use Rattle.routes.proofs.Places.{load_raised, load_lowered, both_raised, both_lowered, share_le_load}
 
 -- v receives one share more at the place i, from its room
 abbrev pub used_room : ℕ → ℕ → State → State
@@ -27,14 +26,8 @@ moved_used_room m i v ends s z few b is small clear some =
     let inroom : v < length s.room = omega (arith, z.room) in
     record {
       both_shares_are = λ x. both_raised s.shares i x inside;
-      loads = λ x. ⊎_elim
-          (λ e. omega (arith, load_raised m ends s.shares i x b inside, counted_here (at ends i) x 1 (is ∙ sym e), at_set_here s.room v (at s.room v - 1) x inroom e, ap (λ (y : ℕ). at s.room y) e))
-          (λ n. omega (arith, load_raised m ends s.shares i x b inside, counted_off (at ends i) x 1 (λ q. n (sym q ∙ is)), at_set_off s.room v (at s.room v - 1) x n))
-          (same_or_not x v);
-      rooms = λ x. ⊎_elim
-          (λ e. omega (arith, at_set_here s.room v (at s.room v - 1) x inroom e, ap (λ (y : ℕ). at s.room y) e))
-          (λ n. omega (arith, at_set_off s.room v (at s.room v - 1) x n))
-          (same_or_not x v);
+      loads = λ x. grind (arith, load_raised m ends s.shares i x b inside, counted_here, counted_off, at_set_here, at_set_off);
+      rooms = λ x. grind (arith, at_set_here, at_set_off);
       kept = λ k l h. at_set_off s.shares i (at s.shares i + 1) k
           (λ e. absurd (omega (arith, ap (λ (y : ℕ). at s.objects (at ends y)) e, ap (λ (y : ℕ). at s.objects y) is)));
     }

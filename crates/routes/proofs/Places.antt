@@ -1,42 +1,25 @@
 -- Places: the two of a constraint, what stands there after a store, and loads and both shares of a constraint then. Assumes nothing.
 use mathlib.Core.Path.{◌≡◌, refl, sym, ap, subst, ◌∙◌}
-use mathlib.Core.Logic.{◌≢◌, ⊎_elim}
+use mathlib.Core.Logic.{⊎_elim}
 use mathlib.Core.List.{List}
-use Prim.Native.Nat.{ℕ, zero, ◌+◌, ◌-◌, ◌*◌, ◌/◌, ◌<◌, ◌≤◌}
+use Prim.Native.Nat.{ℕ, ◌+◌, ◌-◌, ◌*◌, ◌/◌, ◌<◌, ◌≤◌}
 use native.Mathlib.Omega.{arith}
-use native.Mathlib.Decide.{dec_lt}
-use lib.ListN.{length, set, replicate, length-replicate, get_or-replicate, get_or-eq_default}
-use lib.Seq.{get_or-set_same, get_or-set_other}
+use lib.ListN.{length, set}
+use lib.Seq.{get_or-set_same}
 use lib.Dec.{eqb}
 use Rattle.density.specs.Sum.{sum, counted}
 use Rattle.density.proofs.Sums.{counted_add, term_le}
 use Rattle.arrays.specs.At.{at}
+use Rattle.arrays.proofs.Stores.{at_set_here, at_set_off}
 use Rattle.routes.specs.State.{both_shares, load}
 use Rattle.routes.specs.Search.{lowered, raised}
-use Rattle.routes.proofs.Cases.{same_or_not}
+use Rattle.std.proofs.lemmas.Bool.{cases_eq}
 use Rattle.routes.proofs.Sums.{counted_here, counted_off, sum_differ_at}
-
-pub at_set_here : (l : List ℕ) (i y q : ℕ) → i < length l → q ≡ i → at (set l i y) q ≡ y
-at_set_here l i y q b e = subst (λ (j : ℕ). at (set l i y) j ≡ y) (sym e) (get_or-set_same l i y 0 b)
-
-pub at_set_off : (l : List ℕ) (i y q : ℕ) → q ≢ i → at (set l i y) q ≡ at l q
-at_set_off l i y q n = get_or-set_other l i q y 0 n
 
 -- each place of e is one of its two
 pub by_place : (P : ℕ → Type 0) (e : ℕ) {i : ℕ} → i / 2 ≡ e → P (2 * e) → P (2 * e + 1) → P i
 by_place P e {i} q one two =
-    ⊎_elim (λ y. subst P (sym y) one) (λ n. let y : 2 * e + 1 ≡ i = omega arith in subst P y two) (same_or_not i (2 * e))
-
--- ---- an array of zeros
-
-pub length_zeros : (n : ℕ) → length (replicate n zero) ≡ n
-length_zeros n = length-replicate n zero
-
-pub at_zeros : (n i : ℕ) → at (replicate n 0) i ≡ 0
-at_zeros n i = elim (dec_lt i n) [
-  | yes b ↦ get_or-replicate n i 0 0 b
-  | no c ↦ get_or-eq_default (replicate n 0) 0 {n = i} (omega (arith, length_zeros n))
-]
+    ⊎_elim (λ y. subst P (sym y) one) (λ n. let y : 2 * e + 1 ≡ i = omega arith in subst P y two) (cases_eq i (2 * e))
 
 -- ---- what an object receives
 
@@ -68,35 +51,7 @@ share_le_load m ends shares i l =
 
 both_set : (shares : List ℕ) (i y x : ℕ) → i < length shares
     → both_shares (set shares i y) x + counted (eqb (i / 2) x) (at shares i) ≡ both_shares shares x + counted (eqb (i / 2) x) y
-both_set shares i y x b =
-    ⊎_elim
-    (λ e. ⊎_elim
-    (λ f. omega (
-      arith,
-      at_set_here shares i y (2 * x) b f,
-      at_set_off shares i y (2 * x + 1) (λ q. absurd (omega arith)),
-      ap (λ (z : ℕ). at shares z) f,
-      counted_here (i / 2) x (at shares i) e,
-      counted_here (i / 2) x y e,
-    ))
-    (λ f. let g : 2 * x + 1 ≡ i = omega arith in
-    omega (
-      arith,
-      at_set_off shares i y (2 * x) f,
-      at_set_here shares i y (2 * x + 1) b g,
-      ap (λ (z : ℕ). at shares z) g,
-      counted_here (i / 2) x (at shares i) e,
-      counted_here (i / 2) x y e,
-    ))
-    (same_or_not (2 * x) i))
-    (λ n. omega (
-      arith,
-      at_set_off shares i y (2 * x) (λ q. n (omega arith)),
-      at_set_off shares i y (2 * x + 1) (λ q. n (omega arith)),
-      counted_off (i / 2) x (at shares i) n,
-      counted_off (i / 2) x y n,
-    ))
-    (same_or_not (i / 2) x)
+both_set shares i y x b = grind (arith, at_set_here, at_set_off, counted_here, counted_off)
 
 pub both_raised : (shares : List ℕ) (i x : ℕ) → i < length shares → both_shares (raised i shares) x ≡ both_shares shares x + counted (eqb (i / 2) x) 1
 both_raised shares i x b =

@@ -1,32 +1,22 @@
 -- Laws of the region that a search marks when no route is found. Assumes nothing.
-use mathlib.Core.Path.{◌≡◌, refl, sym, subst, ◌∙◌}
+use mathlib.Core.Path.{◌≡◌, sym, subst, ◌∙◌}
 use mathlib.Core.Logic.{⊎_elim}
 use mathlib.Core.List.{List}
 use mathlib.Core.Bool.{Bool}
+use native.Mathlib.Omega.{arith}
 use Prim.Native.Nat.{ℕ, ◌*◌, ◌/◌, ◌<◌}
 use native.Mathlib.Nat.{eq-zero-or-pos}
-use native.Mathlib.Omega.{arith}
 use lib.Dec.{T}
 use Rattle.arrays.specs.At.{at}
 use Rattle.routes.specs.Marked.{Marked}
 use Rattle.routes.specs.State.{State, Grown, GoesOn}
 use Rattle.routes.specs.Search.{NoRoute}
-use Rattle.routes.proofs.Cases.{same_or_not}
-use Rattle.routes.proofs.Places.{at_set_off}
+use Rattle.std.proofs.lemmas.Bool.{cases_eq}
+use Rattle.arrays.proofs.Stores.{at_set_off}
 use Rattle.routes.proofs.Marking.{mark_object, mark_constraint}
 
 abbrev pub From : Type 1
 From = (ℕ → Bool) → Type 0
-
--- nothing is marked
-pub region_none : {m : ℕ} {ends : List ℕ} {from : From} {s : State} → NoRoute m ends from s s
-region_none = record {
-  unmoved = record { shares = refl; room = refl };
-  closed = λ e c h i q. absurd (omega arith);
-  full = λ v c h. absurd (omega arith);
-  goes_on = λ k b c h p. absurd (omega arith);
-  least = λ S g f v c h. absurd (omega arith);
-}
 
 -- a set that the routes do not leave with more marks is one with fewer
 pub goes_earlier : (m : ℕ) (ends : List ℕ) (t u : State) (S : ℕ → Bool) → Grown t u → u.shares ≡ t.shares → GoesOn m ends u S → GoesOn m ends t S
@@ -37,12 +27,9 @@ goes_earlier m ends t u S grown same g k b h inside p =
 pub region_then : {m : ℕ} {ends : List ℕ} {from : From} {s t u : State} → Grown t u → NoRoute m ends from s t → NoRoute m ends from t u → NoRoute m ends from s u
 region_then {m} {ends} {from} {s} {t} {u} grown one two = record {
   unmoved = record { shares = two.unmoved.shares ∙ one.unmoved.shares; room = two.unmoved.room ∙ one.unmoved.room };
-  closed = λ e c h i q. ⊎_elim (λ z. two.closed e z h i q) (λ p. grown.objects (at ends i) (one.closed e c p i q)) (eq-zero-or-pos (at t.constraints e));
-  full = λ v c h. ⊎_elim (λ z. subst (λ (l : List ℕ). at l v ≡ 0) one.unmoved.room (two.full v z h)) (λ p. one.full v c p) (eq-zero-or-pos (at t.objects v));
-  goes_on = λ k b c h p. ⊎_elim
-      (λ z. two.goes_on k b z h (subst (λ (l : List ℕ). 0 < at l k) (sym one.unmoved.shares) p))
-      (λ y. grown.constraints (k / 2) (one.goes_on k b c y p))
-      (eq-zero-or-pos (at t.objects (at ends k)));
+  closed = λ e c h i q. grind (arith, two.closed e, grown.objects (at ends i), one.closed e c);
+  full = λ v c h. grind (arith, one.unmoved.room, two.full v, one.full v c);
+  goes_on = λ k b c h p. grind (arith, one.unmoved.shares, two.goes_on k b, grown.constraints (k / 2), one.goes_on k b c);
   least = λ S g f v c h. ⊎_elim
       (λ z. two.least S g f v z h)
       (λ y. one.least S (goes_earlier m ends t u S grown two.unmoved.shares g) f v c y)
@@ -68,7 +55,7 @@ region_constraint e {ends} {s = s} h both = record {
   closed = λ x c k i q. ⊎_elim
       (λ y. both i (q ∙ y))
       (λ n. h.closed x (at_set_off s.constraints e 1 x n ∙ c) k i q)
-      (same_or_not x e);
+      (cases_eq x e);
   full = h.full;
   goes_on = h.goes_on;
   least = h.least;
@@ -81,16 +68,13 @@ pub region_object : {m : ℕ} (v : ℕ) {ends : List ℕ} {from : From} {s t : S
 region_object v {ends} {s = s} h no_room covered start = record {
   unmoved = h.unmoved;
   closed = h.closed;
-  full = λ u c k. ⊎_elim
-      (λ e. subst (λ (x : ℕ). at s.room x ≡ 0) (sym e) no_room)
-      (λ n. h.full u (at_set_off s.objects v 1 u n ∙ c) k)
-      (same_or_not u v);
+  full = λ u c k. grind (arith, no_room, at_set_off, h.full u);
   goes_on = λ k b c y p. ⊎_elim
       (λ e. covered k b e p)
       (λ n. h.goes_on k b (at_set_off s.objects v 1 (at ends k) n ∙ c) y p)
-      (same_or_not (at ends k) v);
+      (cases_eq (at ends k) v);
   least = λ S g f u c k. ⊎_elim
       (λ e. subst (λ (x : ℕ). T (S x)) (sym e) (start S f))
       (λ n. h.least S g f u (at_set_off s.objects v 1 u n ∙ c) k)
-      (same_or_not u v);
+      (cases_eq u v);
 }

@@ -9,7 +9,7 @@ use lib.Dec.{eqb}
 use borrow.Author.Tests.{eq-eqb, ne_eqb}
 use Rattle.density.specs.Sum.{sum, counted}
 use Rattle.density.proofs.Sums.{sum_same}
-use Rattle.routes.proofs.Cases.{same_or_not}
+use Rattle.std.proofs.lemmas.Bool.{cases_eq}
 
 pub counted_here : (i v y : ℕ) → i ≡ v → counted (eqb i v) y ≡ y
 counted_here i v y e = ap (λ (b : Bool). counted b y) (eq-eqb i v e)
@@ -26,7 +26,7 @@ sum_differ_at (suc k) f g i l h =
     (λ e. subst (λ (j : ℕ). sum k f + f k + g j ≡ sum k g + g k + f j) (sym e)
     (omega (arith, sum_same k f g (λ x b. h x (λ q. absurd (omega arith))))))
     (λ n. omega (arith, sum_differ_at k f g i (omega arith) h, h k (λ q. n (sym q))))
-    (same_or_not i k)
+    (cases_eq i k)
 
 -- the sum over the places is the sum over the constraints of both places
 pub sum_pairs : (m : ℕ) (f : ℕ → ℕ) → sum (2 * m) f ≡ sum m (λ e. f (2 * e) + f (2 * e + 1))

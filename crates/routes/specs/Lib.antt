@@ -2,5 +2,6 @@
 pub mod Marked
 -- what only states the contracts of the functions
 pub mod Chains
+pub mod Places
 pub mod State
 pub mod Search

@@ -2,32 +2,20 @@
 use Rattle.std.specs.Prelude.{◌≡◌, List, Bool, true, false, ℕ, ◌+◌, ◌-◌, ◌*◌, ◌/◌, ◌<◌, ◌≤◌, T, eqb, set}
 use Rattle.density.specs.Sum.{counted}
 use Rattle.limits.specs.Limits.{most_objects, most_ends}
-use Rattle.routes.specs.declared.search.Marks.{Marks}
-use Rattle.routes.specs.declared.search.Route.{Route}
+use Rattle.routes.specs.declared.search.Sharing.{Sharing}
 use Rattle.arrays.specs.At.{at}
 use Rattle.routes.specs.Marked.{Marked, Clear}
-use Rattle.routes.specs.Chains.{Chained}
 use Rattle.routes.specs.State.{State, Sized, Unmoved, Grown, BothIn, GoesOn, Bounded, both_shares, load, unmarked}
 
--- what a search answers, as a value
-abbrev pub route_of : Bool → ℕ → Marks → Route
-route_of found count marks = record { found = found; count = count; marks = marks }
-
--- what every search asks of the arrays
-pub record Ready (m : ℕ) (ends head next : List ℕ) (s : State) : Type 0 where
-  pub chained : Chained m ends head next
-  pub sized : Sized s
-  pub bounded : Bounded m ends s
-
 -- what a search from the constraint e asks
-pub record ReadyConstraint (m e : ℕ) (ends head next : List ℕ) (s : State) : Type 0 where
-  pub ready : Ready m ends head next s
+pub record ReadyConstraint (m e : ℕ) (ends : List ℕ) (s : State) : Type 0 where
+  pub bounded : Bounded m ends s
   pub is : e < m
   pub clear : Clear s.constraints e
 
 -- what a search to the object at the place i asks
-pub record ReadyObject (m i : ℕ) (ends head next : List ℕ) (s : State) : Type 0 where
-  pub ready : Ready m ends head next s
+pub record ReadyObject (m i : ℕ) (ends : List ℕ) (s : State) : Type 0 where
+  pub bounded : Bounded m ends s
   pub is : i < 2 * m
 
 -- no route was found: nothing moved, and the new marks are a region that no route leaves
@@ -96,9 +84,8 @@ pub record UsingRoom (i v : ℕ) (shares room : List ℕ) : Type 0 where
   pub has_room : 0 < at room v
 
 -- one share more at the place i, and one less of the room of v
-pub record UsedRoom (i v : ℕ) (shares room shares' room' : List ℕ) : Type 0 where
-  pub shares_are : shares' ≡ raised i shares
-  pub room_is : room' ≡ set room v (at room v - 1)
+abbrev pub room_used : ℕ → ℕ → Sharing → Sharing
+room_used i v s = record s { shares = raised i s.shares; room = set s.room v (at s.room v - 1) }
 
 -- what a share that goes from the place k to the place i asks: it fits two bytes there
 pub record Shifting (k i : ℕ) (shares : List ℕ) : Type 0 where
@@ -106,3 +93,7 @@ pub record Shifting (k i : ℕ) (shares : List ℕ) : Type 0 where
   pub to : i < most_ends
   pub some : 0 < at shares k
   pub fits : at (lowered k shares) i < 65535
+
+-- one share gone from the place k to the place i
+abbrev pub share_passed : ℕ → ℕ → Sharing → Sharing
+share_passed k i s = record s { shares = shifted k i s.shares }

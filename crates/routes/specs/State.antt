@@ -3,6 +3,8 @@ use Rattle.std.specs.Prelude.{◌≡◌, List, Bool, ℕ, ◌+◌, ◌*◌, ◌/
 use Rattle.density.specs.Sum.{sum, counted}
 use Rattle.limits.specs.Limits.{most_objects, most_constraints, most_ends}
 use Rattle.arrays.specs.At.{at}
+use Rattle.routes.specs.declared.search.Marks.{Marks}
+use Rattle.routes.specs.declared.search.Sharing.{Sharing}
 use Rattle.routes.specs.Marked.{Marked}
 
 -- the marks of the objects and of the constraints, the shares by place and the rooms
@@ -14,6 +16,10 @@ pub record State : Type 0 where
 
 abbrev pub state : List ℕ → List ℕ → List ℕ → List ℕ → State
 state o c s r = record { objects = o; constraints = c; shares = s; room = r }
+
+-- the state that marks and sharing hold
+abbrev pub seen_state : Marks → Sharing → State
+seen_state marks sharing = state marks.objects sharing.stuck sharing.shares sharing.room
 
 -- each array has its full length
 pub record Sized (s : State) : Type 0 where

@@ -1,6 +1,7 @@
--- Laws of the answer: the empty start, the weight left, what a release keeps, the arrays as a net, and that a settled state solves it.
+-- Laws of the answer: the empty start, what a release keeps, the arrays as a net, what the shares claim, and that a settled state
+-- solves it.
 mod EmptyStart
-mod WeightLeft
 mod AfterRelease
 mod AsNet
+mod Claiming
 mod Solves

@@ -1,4 +1,3 @@
--- Laws of settling: what it keeps, the searches of one constraint, and all constraints in turn.
+-- Laws of settling: what it keeps, and the searches of one constraint.
 mod Keeping
 mod OneConstraint
-mod AllConstraints

@@ -3,8 +3,7 @@ use Rattle.std.specs.Prelude.{◌≡◌, List, Bool, true, false, ℕ, ◌+◌, 
 use Rattle.limits.specs.Limits.{most_constraints}
 use Rattle.arrays.specs.At.{at}
 use Rattle.routes.specs.Marked.{Marked, Clear}
-use Rattle.routes.specs.Chains.{Chained}
-use Rattle.routes.specs.State.{State, Sized, BothIn, GoesOn, Bounded, both_shares, load}
+use Rattle.routes.specs.State.{State, BothIn, GoesOn, Bounded, both_shares, load}
 
 -- 01: "A route starts at a constraint with weight left": S holds every marked constraint with weight left
 abbrev pub Starts : ℕ → List ℕ → List ℕ → State → (ℕ → Bool) → Type 0
@@ -14,7 +13,6 @@ Starts m ends takes s S =
 -- the shares of a constraint are within its weight, and the marked objects are a region that no route leaves, the least
 -- one with its own starts
 pub record Kept (m : ℕ) (ends takes : List ℕ) (s : State) : Type 0 where
-  pub sized : Sized s
   pub bounded : Bounded m ends s
   pub fits : (e : ℕ) → e < m → both_shares s.shares e ≤ at takes e
   pub closed : (e : ℕ) → e < m → Marked s.constraints e
@@ -34,14 +32,9 @@ pub record Onward (m : ℕ) (ends takes : List ℕ) (s s' : State) : Type 0 wher
   pub loads : (v : ℕ) → load m ends s'.shares v + at s'.room v ≡ load m ends s.shares v + at s.room v
   pub done : (e : ℕ) → e < m → Done takes s e → Done takes s' e
 
--- what settling asks: any kept state
-pub record Settling (m : ℕ) (ends head next takes : List ℕ) (s : State) : Type 0 where
-  pub chained : Chained m ends head next
+-- what handing out the weight of e asks: the state is kept, and e is not marked
+pub record HandingOut (m e : ℕ) (ends takes : List ℕ) (s : State) : Type 0 where
   pub kept : Kept m ends takes s
-
--- what handing out the weight of e asks: e is not marked
-pub record HandingOut (m e : ℕ) (ends head next takes : List ℕ) (s : State) : Type 0 where
-  pub settling : Settling m ends head next takes s
   pub is : e < m
   pub clear : Clear s.constraints e
 

@@ -1,171 +1,119 @@
 // The answer for a constraint: release its two ends, settle again, and the marked objects are its answer set.
 // One base distribution serves every constraint; 'from nothing' is the same with an empty start.
-// n and m count the objects and the constraints in use.
-ghost use Rattle.std.specs.Prelude.{◌≡◌, length};
-ghost use Rattle.limits.specs.Limits.{most_objects};
-ghost use Rattle.arrays.specs.Arrays.{Fair};
+ghost use Rattle.std.specs.Prelude.{◌≡◌, ◌+◌, ◌*◌, ◌<◌, ◌≤◌, ◌≤ℤ◌, ℕ, pos, negsuc};
+ghost use Rattle.density.specs.Sheet.{claim};
+ghost use Rattle.arrays.specs.At.{at};
+ghost use Rattle.arrays.specs.Arrays.{net_in, shares_in};
+ghost use Rattle.routes.specs.State.{seen_state, both_shares};
 ghost use Rattle.settling.specs.Solved.{Solved};
-ghost use Rattle.settling.specs.Answer.{state_of, Spread, Solving, EachWithin, Remainder};
+ghost use Rattle.settling.specs.Answer.{Spread, EachWithin, Remainder, Claimed};
 
 use crate::release::release;
 use crate::settle::{left, settle};
-use arrays::{ends_of, one_byte};
+use arrays::{NetArrays, ends_of};
 use limits::{CONSTRAINTS, ENDS, OBJECTS};
-use routes::chains::chain;
-use routes::search::Marks;
+use routes::chains::{Chains, chain};
+use routes::search::{Marks, Sharing};
 
-// What has been given: the chains, the shares by place, the room of each object, and the marks of the stuck.
+// What has been given: of a net, along its chains, how the shares are handed out, and the objects that the stuck constraints reach.
 #[derive(Clone, Copy)]
 pub struct Distribution {
-    pub head: [u16; OBJECTS],
-    pub next: [u16; ENDS],
-    pub shares: [u16; ENDS],
-    pub room: [u8; OBJECTS],
-    pub stuck: [u8; CONSTRAINTS],
+    pub net: NetArrays,
+    pub chains: Chains,
+    pub sharing: Sharing,
     pub marks: Marks,
+    pub ghost same_count: { chains.constraints ≡ net.constraints },
+    pub ghost same_ends: { chains.ends ≡ net.ends },
+    pub ghost spread: { Spread net.constraints net.ends net.weights net.takes (seen_state marks sharing) },
 }
 
-// The answer set, the sheet that shows its density, and the density, which is above less below.
+// The top density of a constraint, the sheet that shows it, and the answer set as marks.
 #[derive(Clone, Copy)]
 pub struct Solution {
-    pub above: usize,
-    pub below: usize,
+    pub density: i32,
     pub shares: [u16; ENDS],
     pub marks: Marks,
 }
 
-// At the start the room of an object is its weight.
-fn rooms(weights: [u8; OBJECTS]) -> [u8; OBJECTS]
-    ensures { (result ≡ weights) × (length result ≡ most_objects) }
+// Nothing is given yet. The room of an object is its weight.
+pub fn nothing(net: &NetArrays) -> Distribution
+    ensures { result.net ≡ net.now }
 {
-    weights
-}
-
-// Nothing is given yet.
-pub fn nothing(
-    n: usize,
-    m: usize,
-    ends: &[u16; ENDS],
-    weights: &[u8; OBJECTS],
-    takes: &[u8; CONSTRAINTS],
-) -> Distribution
-    requires { Fair n m ends.now weights.now takes.now }
-    ensures { Spread m ends.now weights.now takes.now result.head result.next (state_of result) }
-{
-    let chains = chain(m, ends);
-    let head = chains.head;
-    let next = chains.next;
-    let open = *weights;
-    let room = rooms(open);
-    let shares = [0u16; ENDS];
-    let stuck = [0u8; CONSTRAINTS];
-    let objects = [0u8; OBJECTS];
-    let marks = Marks { objects };
     Distribution {
-        head,
-        next,
-        shares,
-        room,
-        stuck,
-        marks,
+        net: *net,
+        chains: chain(net.constraints, &net.ends),
+        sharing: Sharing {
+            stuck: [0; CONSTRAINTS],
+            shares: [0; ENDS],
+            room: net.weights,
+        },
+        marks: Marks {
+            objects: [0; OBJECTS],
+        },
     }
 }
 
 // Every constraint has given what it can, with all rooms open.
-pub fn base(
-    n: usize,
-    m: usize,
-    ends: &[u16; ENDS],
-    weights: &[u8; OBJECTS],
-    takes: &[u8; CONSTRAINTS],
-) -> Distribution
-    requires { Fair n m ends.now weights.now takes.now }
-    ensures { Spread m ends.now weights.now takes.now result.head result.next (state_of result) }
+pub fn base(net: &NetArrays) -> Distribution
+    ensures { result.net ≡ net.now }
 {
-    let start = nothing(n, m, ends, weights, takes);
-    let head = start.head;
-    let next = start.next;
-    let mut shares = start.shares;
-    let mut room = start.room;
-    let mut stuck = start.stuck;
-    let empty = start.marks;
-    let marks = settle(
-        m,
-        empty,
-        &mut stuck,
-        &mut shares,
-        &mut room,
-        takes,
-        ends,
-        &head,
-        &next,
-    );
+    let Distribution {
+        net,
+        chains,
+        mut sharing,
+        marks,
+    } = nothing(net);
+    let marks = settle(&chains, &net.takes, marks, &mut sharing);
     Distribution {
-        head,
-        next,
-        shares,
-        room,
-        stuck,
+        net,
+        chains,
+        sharing,
         marks,
     }
 }
 
 // The sum of the weight that all constraints have left.
-fn remainder(m: usize, shares: &[u16; ENDS], takes: &[u8; CONSTRAINTS]) -> usize
-    requires { EachWithin m takes.now shares.now }
-    ensures { Remainder m takes.now shares.now result }
+#[tactic(auto, unfolding(density::specs::Sum::sum))]
+fn remainder(net: &NetArrays, shares: &[u16; ENDS]) -> usize
+    requires { EachWithin net.now.constraints net.now.takes shares.now }
+    ensures { Remainder net.now.constraints net.now.takes shares.now result }
 {
-    let mut sum: usize = 0;
-    let mut e: usize = 0;
-    while e < m {
-        sum += left(e, shares, takes);
-        e += 1;
+    let mut sum = 0;
+    // As a sum over an iterator its proof did not close.
+    for e in 0..net.constraints {
+        sum += left(e, shares, &net.takes);
     }
     sum
 }
 
-// Top density and answer set of constraint c.
-pub fn answer(
-    n: usize,
-    m: usize,
-    c: usize,
-    ends: &[u16; ENDS],
-    weights: &[u8; OBJECTS],
-    takes: &[u8; CONSTRAINTS],
-    from: Distribution,
-) -> Solution
-    requires { Solving n m c ends.now weights.now takes.now from.head from.next (state_of from) }
-    ensures { Solved n m c ends.now weights.now takes.now
-        result.marks.objects result.shares result.above result.below }
+// What the shares claim for constraint c: the weight that is left, less the weights of c's two ends.
+#[tactic(auto, using(crate::proofs::answer::Claiming::claimed_is))]
+fn claimed(c: usize, net: &NetArrays, shares: &[u16; ENDS]) -> i32
+    requires is { c < net.now.constraints }
+    requires fits { EachWithin net.now.constraints net.now.takes shares.now }
+    ensures { Claimed c net.now shares.now result }
 {
-    let head = from.head;
-    let next = from.next;
-    let mut shares = from.shares;
-    let mut room = from.room;
-    let mut stuck = from.stuck;
-    let dead = from.marks;
-    let both = ends_of(c, ends);
-    let one = both.first;
-    let two = both.second;
-    release(m, one, &mut shares, &mut room, ends, &head, &next);
-    release(m, two, &mut shares, &mut room, ends, &head, &next);
-    let marks = settle(
-        m,
-        dead,
-        &mut stuck,
-        &mut shares,
-        &mut room,
-        takes,
-        ends,
-        &head,
-        &next,
-    );
-    let above = remainder(m, &shares, takes);
-    let below = one_byte(weights[one]) + one_byte(weights[two]);
+    let above = remainder(net, shares);
+    let below = net.ends_weigh(c);
+    // Both are small; no From leads from usize to i32.
+    above as i32 - below as i32
+}
+
+// Top density and answer set of constraint c.
+pub fn answer(c: usize, from: &Distribution) -> Solution
+    requires is { c < from.now.net.constraints }
+    requires some { 0 < at from.now.net.takes c }
+    ensures { Solved from.now.net.objects from.now.net.constraints c from.now.net.ends from.now.net.weights from.now.net.takes
+        result.marks.objects result.shares result.density }
+{
+    let both = ends_of(c, &from.net.ends);
+    let mut sharing = from.sharing;
+    release(&from.chains, both.first, &mut sharing);
+    release(&from.chains, both.second, &mut sharing);
+    let marks = settle(&from.chains, &from.net.takes, from.marks, &mut sharing);
     Solution {
-        above,
-        below,
-        shares,
+        density: claimed(c, &from.net, &sharing.shares),
+        shares: sharing.shares,
         marks,
     }
 }

@@ -1,5 +1,5 @@
 // Settling: constraints hand out their weight along routes until nothing more can be given, and what the stuck ones reach is the answer.
-// Over weights and ends alone. Arrays have room for the limits; n objects and m constraints are in use.
+// Over weights and ends alone. Arrays have room for the limits; a net says how many objects and constraints are in use.
 #![tactic(auto)]
 
 pub mod answer;

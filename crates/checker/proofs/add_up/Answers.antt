@@ -1,34 +1,21 @@
-use Rattle.checker.proofs.AddingUp.{none_added, all_added, a_low, first_fits, b_low, second_fits, one_added, not_fitting}
+use Rattle.checker.proofs.AddingUp.{adding}
 use borrow.Author.Rules.{rules}
 use Rattle.checker.proofs.add_up.Goals as goal
 
 pub loop-e-init : goal.loop-e-init
-loop-e-init c = search (none_added, rules)
+loop-e-init c = search (adding, rules)
 
-pub returns-then-both-weight : goal.returns-then-both-weight
-returns-then-both-weight c = search not_fitting
+pub overflow_add-tally : goal.overflow_add-tally
+overflow_add-tally c = search (adding, rules)
 
-pub receive-requires : goal.receive-requires
-receive-requires c = (
-  search a_low,
-  first_fits c.requires c.loop-e.invariant c.loop-e-test.true c.two_at-x.ensures c.two_at-y.ensures
-      c.one_byte-weight.ensures.0 c.two_bytes.ensures.0 c.two_bytes-in-loop-e.ensures.0 c.if-both-weight.false
-      c.ends_of-pair.ensures.0,
-)
+pub overflow_add-tally-in-loop-e : goal.overflow_add-tally-in-loop-e
+overflow_add-tally-in-loop-e c = search (adding, rules)
 
-pub receive-requires-in-loop-e : goal.receive-requires-in-loop-e
-receive-requires-in-loop-e c = (
-  search b_low,
-  second_fits c.requires c.loop-e.invariant c.loop-e-test.true c.two_at-x.ensures c.two_at-y.ensures
-      c.one_byte-weight.ensures.0 c.two_bytes.ensures.0 c.two_bytes-in-loop-e.ensures.0 c.if-both-weight.false
-      c.ends_of-pair.ensures.0 c.receive.ensures c.ends_of-pair.ensures.1,
-)
+pub overflow_add-tally-in-loop-e-2 : goal.overflow_add-tally-in-loop-e-2
+overflow_add-tally-in-loop-e-2 c = search (adding, rules)
+
+pub overflow_add-tally-in-loop-e-3 : goal.overflow_add-tally-in-loop-e-3
+overflow_add-tally-in-loop-e-3 c = search (adding, rules)
 
 pub loop-e-preserved : goal.loop-e-preserved
-loop-e-preserved c =
-    one_added c.requires c.loop-e.invariant c.loop-e-test.true c.two_at-x.ensures c.two_at-y.ensures
-    c.one_byte-weight.ensures.0 c.two_bytes.ensures.0 c.two_bytes-in-loop-e.ensures.0 c.if-both-weight.false
-    c.ends_of-pair.ensures.0 c.receive.ensures c.ends_of-pair.ensures.1 c.receive-in-loop-e.ensures
-
-pub returns : goal.returns
-returns c = search all_added
+loop-e-preserved c = search (adding, rules)

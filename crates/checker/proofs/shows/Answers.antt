@@ -1,30 +1,32 @@
 -- `checker::shows` meets its contract. Assumes nothing.
-use borrow.Author.Tests.{not-true, not-false}
+use mathlib.Core.Path.{sym, ◌∙◌}
+use native.Mathlib.Omega.{arith}
 use mir.Facts.{to_z-of_z}
-use Rattle.checker.proofs.Deciding.{adding, ending, unfit, crowded, receiving, decided}
+use Rattle.checker.proofs.AddingUp.{given_small, total_small}
+use Rattle.checker.proofs.Deciding.{crowded, receiving, decided}
+use borrow.Author.Rules.{rules}
 use Rattle.checker.proofs.shows.Goals as goal
+use Rattle.checker.proofs.shows.Goals.{then-has_room, else-has_room}
 
-pub add_up-tally-requires : goal.add_up-tally-requires
-add_up-tally-requires c = search adding
+pub overflow_add-tally : goal.overflow_add-tally
+overflow_add-tally c =
+    record { fits = omega (arith, total_small c.in-Some.ensures, given_small c.in-Some.ensures) }
 
-pub returns-then-not-tally : goal.returns-then-not-tally
-returns-then-not-tally c = search (unfit, not-true)
+pub equals-requires : goal.equals-requires
+equals-requires c = (
+  omega (arith, total_small c.in-Some.ensures),
+  omega (arith, total_small c.in-Some.ensures, given_small c.in-Some.ensures),
+)
 
-pub returns-then-not-has_room : goal.returns-then-not-has_room
-returns-then-not-has_room c = search (crowded, not-false)
+pub returns-then-bare : goal.returns-then-bare
+returns-then-bare c =
+    elim c.if-has_room.branch [
+      | then-has_room w ↦
+          decided c.requires.is c.in-Some.ensures c.has_room.ensures w.if-has_room.true w.bare.ensures (sym w.value-is ∙ c.if-bare.true)
+          c.ends_weigh.ensures.is c.equals.ensures (to_z-of_z c.ranges.claimed)
+      | else-has_room w ↦ cc
+    ]
 
-pub bare-requires : goal.bare-requires
-bare-requires c = search ending
-
-pub returns-then-not-bare : goal.returns-then-not-bare
-returns-then-not-bare c = search (receiving, not-false)
-
-pub ends_weigh-weigh-requires : goal.ends_weigh-weigh-requires
-ends_weigh-weigh-requires c = search ending
-
-pub returns : goal.returns
-returns c =
-    decided c.requires c.add_up-tally.ensures (not-false c.add_up-tally.result.fits c.if-not-tally.false)
-    c.has_room.ensures c.if-not-has_room.false
-    c.bare.ensures c.if-not-bare.false
-    c.ends_weigh-weigh.ensures c.equals.ensures (to_z-of_z c.ranges.claimed)
+pub returns-else-bare : goal.returns-else-bare
+returns-else-bare c =
+    elim c.if-has_room.branch [ then-has_room w ↦ search (receiving, rules) | else-has_room w ↦ search (crowded, rules) ]

@@ -2,12 +2,13 @@
 use mathlib.Core.Path.{◌≡◌, refl, sym, ◌∙◌, ap, ap₂}
 use mathlib.Core.List.{List, ◌++◌}
 use Prim.Native.Nat.{ℕ, ◌+◌, ◌*◌, ◌/◌, ◌%◌, ◌≤◌, ◌<◌}
-use native.Mathlib.Decide.{ℕ_discrete}
 use native.Mathlib.Omega.{arith}
+use borrow.Author.Count.{below_more}
 use lib.ListN.{length, take, drop, set, length-set, take-append-drop}
-use lib.Seq.{get_or-set_same, get_or-set_other, get_or-take, drop-set-lt, drop-drop, length-take-le}
+use lib.Seq.{get_or-take, drop-set-lt, drop-drop, length-take-le}
 use Rattle.density.specs.Net.{Side, first, second}
 use Rattle.arrays.specs.At.{at}
+use Rattle.arrays.proofs.Stores.{at_set_here, at_set_off}
 use Rattle.arrays.specs.Arrays.{shares_in}
 use Rattle.records.specs.Format.{two_at}
 use Rattle.checker.specs.Sheet.{sheet_size, sheet_in}
@@ -17,12 +18,7 @@ use Rattle.counter.specs.Written.{SheetWritten}
 two_back : (l : List ℕ) (p x : ℕ) → p + 1 < length l → x < 65536 → two_at (set (set l p (x % 256)) (p + 1) (x / 256 % 256)) p ≡ x
 unfolding two_at
 two_back l p x long small =
-    omega (
-      arith,
-      get_or-set_other (set l p (x % 256)) (p + 1) p (x / 256 % 256) 0 (λ e. omega arith),
-      get_or-set_same l p (x % 256) 0 (omega arith),
-      get_or-set_same (set l p (x % 256)) (p + 1) (x / 256 % 256) 0 (simp length-set long),
-    )
+    grind (arith, at_set_here, at_set_off, length-set {A = ℕ})
 
 two_beside : (l : List ℕ) (p q x y : ℕ) → q + 1 < p → two_at (set (set l p x) (p + 1) y) q ≡ two_at l q
 unfolding two_at
@@ -30,7 +26,7 @@ two_beside l p q x y before =
     ap₂ (λ (a b : ℕ). a + 256 * b) (byte q (omega arith)) (byte (q + 1) before)
   where
     byte : (i : ℕ) → i < p → at (set (set l p x) (p + 1) y) i ≡ at l i
-    byte i h = get_or-set_other (set l p x) (p + 1) i y 0 (λ e. omega arith) ∙ get_or-set_other l p i x 0 (λ e. omega arith)
+    byte i h = at_set_off (set l p x) (p + 1) y i (λ e. omega arith) ∙ at_set_off l p x i (λ e. omega arith)
 
 -- the first k shares are written
 pub record SharesWritten (k : ℕ) (shares before after : List ℕ) : Type 0 where
@@ -42,7 +38,7 @@ pub none_written : (shares before : List ℕ) → SharesWritten 0 shares before 
 none_written shares before = record { long = refl; rest = refl; share_is = λ i l. absurd (omega arith) }
 
 pub one_written : {k x : ℕ} {shares before after next : List ℕ} → SharesWritten k shares before after → 2 * k + 1 < length before
-    → x ≡ at shares k → x < 65536 → next ≡ set (set after (2 * k) (x % 256)) (2 * k + 1) (x / 256 % 256) → SharesWritten (k + 1) shares before next
+    → x ≡ at shares k → ((i : ℕ) → at shares i < 65536) → next ≡ set (set after (2 * k) (x % 256)) (2 * k + 1) (x / 256 % 256) → SharesWritten (k + 1) shares before next
 one_written {k} {x} {shares} {before} {after} w room is small e =
     record {
       long = ap length e ∙ simp length-set w.long;
@@ -53,7 +49,10 @@ one_written {k} {x} {shares} {before} {after} w room is small e =
           ∙ split after
           ∙ ap (drop 2) w.rest
           ∙ sym (split before);
-      share_is = λ i l. ap (λ (b : List ℕ). two_at b (2 * i)) e ∙ go i l (ℕ_discrete i k);
+      share_is = rw e
+          (below_more (λ i. two_at (set (set after (2 * k) (x % 256)) (2 * k + 1) (x / 256 % 256)) (2 * i) ≡ at shares i) k
+          (λ i h. two_beside after (2 * k) (2 * i) (x % 256) (x / 256 % 256) (omega arith) ∙ w.share_is i h)
+          (two_back after (2 * k) x (omega (arith, w.long)) (omega (arith, small k)) ∙ is));
     }
   where
     two_more : 2 * (k + 1) ≡ 2 * k + 2
@@ -61,15 +60,6 @@ one_written {k} {x} {shares} {before} {after} w room is small e =
 
     split : (l : List ℕ) → drop (2 * (k + 1)) l ≡ drop 2 (drop (2 * k) l)
     split l = ap (λ (j : ℕ). drop j l) two_more ∙ sym (drop-drop 2 (2 * k) l)
-
-    go : (i : ℕ) → i < k + 1 → Dec (i ≡ k) → two_at (set (set after (2 * k) (x % 256)) (2 * k + 1) (x / 256 % 256)) (2 * i) ≡ at shares i
-    go i l (yes same) =
-        ap (λ (j : ℕ). two_at (set (set after (2 * k) (x % 256)) (2 * k + 1) (x / 256 % 256)) (2 * j)) same
-        ∙ two_back after (2 * k) x (omega (arith, w.long)) small
-        ∙ is
-        ∙ ap (at shares) (sym same)
-    go i l (no other) =
-        two_beside after (2 * k) (2 * i) (x % 256) (x / 256 % 256) (omega arith) ∙ w.share_is i (omega arith)
 
 -- all shares of m constraints are written
 module _ (m : ℕ) {k : ℕ} {shares before after : List ℕ} (w : SharesWritten k shares before after) (all : k ≡ 2 * m) (room : sheet_size m ≤ length before) where
@@ -104,3 +94,6 @@ module _ (m : ℕ) {k : ℕ} {shares before after : List ℕ} (w : SharesWritten
     where
       four : sheet_size m ≡ 2 * k
       four = omega arith
+
+-- what the start and the end of writing need, under one name
+pub ruleset share_laws = (none_written, all_written)

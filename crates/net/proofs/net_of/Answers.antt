@@ -1,8 +1,14 @@
--- `net::net_of` meets its contract. Assumes nothing.
-use Rattle.net.proofs.Standing.{net_for}
+-- `net_of` meets its contract: the arrays are a fair net, and stand for the drawing that was read. Assumes nothing.
+use mathlib.Core.Path.{refl}
+use Rattle.net.proofs.Standing.{fair, held}
 use Rattle.net.proofs.net_of.Goals as goal
+
+pub invariant_of-result : goal.invariant_of-result
+invariant_of-result c = record {
+  fair = fair _ _ c.in_ok-entries.ensures c.ends_by_place-ends.ensures c.weigh.ensures c.of-objects.ensures.objects c.of-objects.ensures.constraints;
+}
 
 pub returns : goal.returns
 returns c =
-    let fill = c.fill-counts in
-    net_for fill.ensures c.weigh-in_force.ensures
+    held _ _ c.in_ok-entries.ensures c.ends_by_place-ends.ensures c.weigh.ensures c.of-objects.ensures.objects c.of-objects.ensures.constraints
+    refl refl refl refl refl

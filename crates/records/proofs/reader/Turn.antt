@@ -1,108 +1,92 @@
--- One turn of reading: where it stands, what the record there leads to, and how reading ends. Assumes nothing.
+-- One turn of reading: where it stands, and what the record there leads to. Assumes nothing.
 use mathlib.Core.Path.{◌≡◌, refl, sym, ap, ap₂, ◌∙◌, subst}
 use mathlib.Core.List.{List}
+use mathlib.Core.Bool.{Bool}
 use Prim.Native.Nat.{ℕ, zero, suc, ◌+◌, ◌≤◌, ◌<◌, zero-le}
 use native.Mathlib.Omega.{arith}
-use lib.ListN.{length, get_or}
+use borrow.Author.Tests.{lt-ltb, le-ltb}
+use lib.ListN.{length}
+use Rattle.codes.specs.declared.Fault.{Fault}
+use Rattle.codes.specs.Codes.{fault_number}
+use Rattle.codes.proofs.Numbers.{at_least_1}
 use Rattle.drawing.specs.declared.Object.{Object}
 use Rattle.drawing.specs.declared.Constraint.{Constraint}
-use Rattle.records.specs.declared.Counts.{Counts}
 use Rattle.drawing.specs.Choice.{pick}
-use Rattle.drawing.specs.Entry.{Drawing, kind_of}
-use Rattle.drawing.specs.Fault.{object_fault, constraint_fault, object_fault_in, constraint_fault_in}
-use Rattle.records.specs.Format.{head_size, body_length, Record, faulty, object, constraint, end, record_at}
-use Rattle.records.specs.Read.{Reading, accepted, unless, behind_fault, read_on, read_from, read}
-use Rattle.drawing.specs.Tabulated.{tabulated}
-use Rattle.drawing.specs.EntryArrays.{EntryArrays, drawing_in, Tidy, Blank}
-use Rattle.records.specs.ReadInto.{ReadInto}
+use Rattle.drawing.specs.Entry.{Drawing, empty_drawing, with_object, with_constraint}
+use Rattle.drawing.specs.Fault.{object_fault_in, constraint_fault_in}
+use Rattle.records.specs.Format.{head_size, object_body_size, constraint_body_size, body_length, next_record, an_end}
+use Rattle.records.specs.Format.{Record, faulty, object, constraint, end, record_at}
+use Rattle.records.specs.Read.{Reading, refused, accepted, unless, behind_fault, read_on, read_from, read}
+use Rattle.records.proofs.EnoughTurns.{turn}
 use Rattle.records.proofs.RecordAt.{RecordFacts, record_facts}
-use Rattle.records.proofs.ReadInto.{as_refused}
-use Rattle.drawing.proofs.DrawingIn.{objects_count, constraints_count, kind_is}
 
--- reading stands at a position, with n objects and m constraints in the arrays
-pub record Stands (s : List ℕ) (at n m : ℕ) (a : EntryArrays) : Type 0 where
+-- reading stands at a position, after the entries of a drawing
+pub record Stands (s : List ℕ) (at : ℕ) (d : Drawing) : Type 0 where
   pub within : at ≤ length s
-  pub turns : ℕ
-  pub enough : length s < at + turns
-  pub so_far : read s ≡ read_from turns s at (drawing_in a n m)
-  pub tidy : Tidy n m a
+  pub so_far : read s ≡ read_from (suc (length s)) s at d
 
-pub starts : (s : List ℕ) (a : EntryArrays) → Blank a → Stands s 0 0 0 a
-unfolding read drawing_in tabulated
-starts s a b = record { within = zero-le; turns = suc (length s); enough = omega arith; so_far = refl; tidy = b }
+pub starts : (s : List ℕ) → Stands s 0 empty_drawing
+unfolding read
+starts s = record { within = zero-le; so_far = refl }
 
--- what the record at the position leads to
-pub record Leads (s : List ℕ) (at : ℕ) (d : Drawing) (r : Record) : Type 0 where
-  pub turns : ℕ
-  pub enough : length s ≤ at + turns
-  pub is : read s ≡ read_on s at d r (read_from turns s)
-  pub facts : RecordFacts s at r
+-- a fault is a refusal, whatever comes after
+by_fault : (n : ℕ) (x : Reading) → 1 ≤ n → unless n x ≡ refused n
+by_fault zero x h = absurd (omega arith)
+by_fault (suc n) x h = refl
 
--- the kind of the object that an end names
-abbrev pub kind_in : EntryArrays → ℕ → ℕ
-kind_in a i = get_or a.object_kinds i 0
+module _ {s : List ℕ} {at : ℕ} {d : Drawing} (here : Stands s at d) where
+  leads : (r : Record) → r ≡ record_at s at → read s ≡ read_on s at d r (read_from (suc (length s)) s)
+  leads r e = here.so_far ∙ turn s at d ∙ ap (λ (x : Record). read_on s at d x (read_from (suc (length s)) s)) (sym e)
 
--- where there is a fault, it does not matter what comes after
-same_refusal : (f : ℕ) (x y : Reading) → (f ≡ 0 → ⊥) → unless f x ≡ unless f y
-same_refusal f x y h = sym (as_refused f x h) ∙ as_refused f y h
+  facts : (r : Record) → r ≡ record_at s at → RecordFacts s at r
+  facts r e = subst (RecordFacts s at) (sym e) (record_facts s at)
 
-module _ (s : List ℕ) (at n m : ℕ) (a : EntryArrays) (st : Stands s at n m a) where
-  turn : (r : Record) → r ≡ record_at s at → (k : ℕ) → length s < at + k → read s ≡ read_from k s at (drawing_in a n m)
-      → Leads s at (drawing_in a n m) r
-  unfolding read_from
-  turn r e zero h q = absurd (omega (arith, st.within))
-  turn r e (suc k) h q = record {
-    turns = k;
-    enough = omega arith;
-    is = q ∙ ap (λ (x : Record). read_on s at (drawing_in a n m) x (read_from k s)) (sym e);
-    facts = subst (RecordFacts s at) (sym e) (record_facts s at);
-  }
+  refuses : (f : Fault) (n : ℕ) (x : Reading) → fault_number f ≡ n → read s ≡ unless n x → refused (fault_number f) ≡ read s
+  refuses f n x e q = sym (q ∙ ap (λ (k : ℕ). unless k x) (sym e) ∙ by_fault (fault_number f) x (at_least_1 f))
 
-  pub leads : (r : Record) → r ≡ record_at s at → Leads s at (drawing_in a n m) r
-  leads r e = turn r e st.turns st.enough st.so_far
+  passes : (n : ℕ) (x : Reading) → 0 ≡ n → read s ≡ unless n x → read s ≡ x
+  passes n x e q = q ∙ ap (λ (k : ℕ). unless k x) (sym e)
 
-  pub object_fault_in_lem : (o : Object) → object_fault_in (drawing_in a n m) o ≡ object_fault n m o
-  object_fault_in_lem o = ap₂ (λ (x y : ℕ). object_fault x y o) (objects_count a n m) (constraints_count a n m)
+  -- a faulty record is refused with its number
+  pub refuses_record : (f : Fault) → faulty (fault_number f) ≡ record_at s at → refused (fault_number f) ≡ read s
+  refuses_record f e = sym (leads (faulty (fault_number f)) e)
 
-  pub constraint_fault_in_lem : (c : Constraint) {x y : ℕ} → x ≡ kind_in a c.first → y ≡ kind_in a c.second
-      → constraint_fault_in (drawing_in a n m) c ≡ constraint_fault n m x y c
-  constraint_fault_in_lem c p q =
-      ap₂ (λ (i j : ℕ). constraint_fault i j (kind_of d c.first) (kind_of d c.second) c) (objects_count a n m) (constraints_count a n m)
-      ∙ ap₂ (λ (i j : ℕ). constraint_fault n m i j c)
-      (kind_is a n m st.tidy c.first ∙ sym p) (kind_is a n m st.tidy c.second ∙ sym q)
-    where
-      d : Drawing
-      d = drawing_in a n m
+  -- an object is refused with its fault, or is the last entry, and reading stands behind it
+  pub refuses_object : (o : Object) (f : Fault) → object o ≡ record_at s at → fault_number f ≡ object_fault_in d o
+      → refused (fault_number f) ≡ read s
+  refuses_object o f e q = refuses f _ _ q (leads (object o) e)
 
-  -- a fault ends the reading
-  pub refuses_record : (f : ℕ) → faulty f ≡ record_at s at → ReadInto s f n m a
-  refuses_record f e =
-      let l = leads (faulty f) e in
-      record { reading = l.is ∙ as_refused f (accepted (drawing_in a n m)) (λ z. omega (arith, l.facts)); tidy = st.tidy }
-
-  refuses : (f g : ℕ) (x : Reading) → read s ≡ unless g x → g ≡ f → (f ≡ 0 → ⊥) → ReadInto s f n m a
-  refuses f g x e q h = record {
-    reading = e ∙ ap (λ (k : ℕ). unless k x) q ∙ same_refusal f x (accepted (drawing_in a n m)) h;
-    tidy = st.tidy;
-  }
-
-  pub refuses_object : (o : Object) → object o ≡ record_at s at → (f : ℕ) → f ≡ object_fault n m o → (f ≡ 0 → ⊥) → ReadInto s f n m a
-  refuses_object o e f q h = refuses f _ _ (leads (object o) e).is (object_fault_in_lem o ∙ sym q) h
-
-  pub refuses_constraint : (c : Constraint) → constraint c ≡ record_at s at → {x y : ℕ} → x ≡ kind_in a c.first → y ≡ kind_in a c.second
-      → (f : ℕ) → f ≡ constraint_fault n m x y c → (f ≡ 0 → ⊥) → ReadInto s f n m a
-  refuses_constraint c e u v f q h = refuses f _ _ (leads (constraint c) e).is (constraint_fault_in_lem c u v ∙ sym q) h
-
-  -- the end record ends it too
-  pub at_end : end ≡ record_at s at → (f : ℕ) → f ≡ behind_fault s (at + head_size) → ReadInto s f n m a
+  pub behind_object : (o : Object) (b : Drawing) → object o ≡ record_at s at → 0 ≡ object_fault_in d o → b ≡ with_object d o
+      → Stands s (at + (head_size + object_body_size)) b
   unfolding body_length pick
-  at_end e f q = record {
-    reading = (leads end e).is
-        ∙ ap (λ (k : ℕ). unless k (accepted (drawing_in a n m))) (ap (behind_fault s) (omega arith) ∙ sym q);
-    tidy = st.tidy;
+  behind_object o b e q p = record {
+    within = omega (arith, facts (object o) e);
+    so_far = passes _ _ q (leads (object o) e) ∙ ap₂ (read_from (suc (length s)) s) (omega arith) (sym p);
   }
 
--- what `ended` answers
-pub as_ended : (s : List ℕ) (f n m : ℕ) (a : EntryArrays) (r : Counts) → r ≡ record { code = f; objects = n; constraints = m } → ReadInto s f n m a
-    → ReadInto s r.code r.objects r.constraints a
-as_ended s f n m a r e h = subst (λ (x : Counts). ReadInto s x.code x.objects x.constraints a) (sym e) h
+  -- so is a constraint
+  pub refuses_constraint : (c : Constraint) (f : Fault) → constraint c ≡ record_at s at → fault_number f ≡ constraint_fault_in d c
+      → refused (fault_number f) ≡ read s
+  refuses_constraint c f e q = refuses f _ _ q (leads (constraint c) e)
+
+  pub behind_constraint : (c : Constraint) (b : Drawing) → constraint c ≡ record_at s at → 0 ≡ constraint_fault_in d c → b ≡ with_constraint d c
+      → Stands s (at + (head_size + constraint_body_size)) b
+  unfolding body_length pick
+  behind_constraint c b e q p = record {
+    within = omega (arith, facts (constraint c) e);
+    so_far = passes _ _ q (leads (constraint c) e) ∙ ap₂ (read_from (suc (length s)) s) (omega arith) (sym p);
+  }
+
+  -- at the end record: accepted, or refused for a byte behind it
+  pub accepts : end ≡ record_at s at → length s ≤ at + head_size → accepted d ≡ read s
+  unfolding body_length behind_fault pick
+  accepts e h =
+      sym (passes _ _ (sym (ap (λ (b : Bool). pick b 9 0) (le-ltb (next_record at an_end) (length s) (omega arith)))) (leads end e))
+
+  pub refuses_behind : end ≡ record_at s at → at + head_size < length s → refused 9 ≡ read s
+  unfolding body_length behind_fault pick
+  refuses_behind e h =
+      sym (leads end e ∙ ap (λ (b : Bool). unless (pick b 9 0) (accepted d)) (lt-ltb (next_record at an_end) (length s) (omega arith)))
+
+-- for `search`: where reading starts, and how it ends
+pub ruleset start_and_end = (starts, refuses_record, refuses_object, refuses_constraint, accepts, refuses_behind)

@@ -8,38 +8,32 @@ use lib.ListN.{length}
 use Rattle.limits.specs.Limits.{most_objects, most_constraints}
 use Rattle.arrays.specs.At.{at}
 use Rattle.routes.specs.Marked.{Marked}
-use Rattle.routes.specs.State.{State, Grown, BothIn, unmarked}
+use Rattle.routes.specs.State.{State, Sized, Grown, BothIn, unmarked}
 use Rattle.routes.specs.Search.{ReadyObject, ReadyConstraint, NoRoute, Moved, FromObject, FromConstraint}
 use Rattle.routes.proofs.Places.{by_place}
-use Rattle.routes.proofs.Marking.{mark_constraint, grown_then, grown_constraint, sized_constraint, unmarked_constraint, unmarked_le, marked_here}
+use Rattle.routes.proofs.Marking.{mark_constraint, grown_then, grown_constraint, unmarked_constraint, unmarked_le, marked_here}
 use Rattle.routes.proofs.Region.{region_then, region_from, region_constraint}
 use Rattle.routes.proofs.Moving.{moved_after, bounded_same}
 
-module _ {m e : ℕ} {ends head next : List ℕ} {s : State} (ready : ReadyConstraint m e ends head next s) where
+module _ {m e : ℕ} {ends : List ℕ} {s : State} (few : m ≤ most_constraints) (sized : Sized s) (ready : ReadyConstraint m e ends s) where
   abbrev marked : State
   marked = mark_constraint e s
 
   e_long : e < length s.constraints
-  e_long = omega (arith, ready.is, ready.ready.chained.few, ready.ready.sized.constraints)
-
-  pub both_small : e < most_constraints
-  both_small = omega (arith, ready.is, ready.ready.chained.few)
+  e_long = omega (arith, ready.is, few, sized.constraints)
 
   pub both_falls : unmarked m marked < unmarked m s
-  both_falls = omega (arith, unmarked_constraint m s e ready.ready.sized ready.is e_long ready.clear)
+  both_falls = omega (arith, unmarked_constraint m s e sized ready.is e_long ready.clear)
 
-  pub first_asks : ReadyObject m (2 * e) ends head next marked
-  first_asks = record {
-    ready = record { chained = ready.ready.chained; sized = sized_constraint s e ready.ready.sized; bounded = ready.ready.bounded };
-    is = omega (arith, ready.is);
-  }
+  pub first_asks : ReadyObject m (2 * e) ends marked
+  first_asks = record { bounded = ready.bounded; is = omega (arith, ready.is) }
 
   module _ {t : State} {found : Bool} {one : ℕ} (after : FromObject m (2 * e) ends marked t found one) where
     first_counts : one + 1 + unmarked m t ≡ unmarked m s
-    first_counts = omega (arith, after.searched.counts, unmarked_constraint m s e ready.ready.sized ready.is e_long ready.clear)
+    first_counts = omega (arith, after.searched.counts, unmarked_constraint m s e sized ready.is e_long ready.clear)
 
     pub first_small : one + 1 ≤ most_objects + most_constraints
-    first_small = omega (arith, first_counts, unmarked_le m s, ready.ready.chained.few)
+    first_small = omega (arith, first_counts, unmarked_le m s, few)
 
     pub first_falls : unmarked m t < unmarked m s
     first_falls = omega (arith, first_counts)
@@ -65,22 +59,18 @@ module _ {m e : ℕ} {ends head next : List ℕ} {s : State} (ready : ReadyConst
           here = here_t;
         }
 
-    pub second_asks : found ≡ false → ReadyObject m (2 * e + 1) ends head next t
+    pub second_asks : found ≡ false → ReadyObject m (2 * e + 1) ends t
     second_asks failed = record {
-      ready = record {
-        chained = ready.ready.chained;
-        sized = after.searched.sized;
-        bounded = bounded_same m ends s t (after.searched.no_route failed).unmoved ready.ready.bounded;
-      };
+      bounded = bounded_same m ends s t (after.searched.no_route failed).unmoved ready.bounded;
       is = omega (arith, ready.is);
     }
 
     module _ {u : State} {found' : Bool} {two : ℕ} (last : FromObject m (2 * e + 1) ends t u found' two) where
-      both_counts : two + (one + 1) + unmarked m u ≡ unmarked m s
+      both_counts : one + 1 + two + unmarked m u ≡ unmarked m s
       both_counts = omega (arith, first_counts, last.searched.counts)
 
-      pub both_count_small : two + (one + 1) ≤ most_objects + most_constraints
-      both_count_small = omega (arith, both_counts, unmarked_le m s, ready.ready.chained.few)
+      pub both_count_small : one + 1 + two ≤ most_objects + most_constraints
+      both_count_small = omega (arith, both_counts, unmarked_le m s, few)
 
       both_no_route : found ≡ false → found' ≡ false → NoRoute m ends (λ S. BothIn ends S e) s u
       both_no_route failed failed' =
@@ -90,7 +80,7 @@ module _ {m e : ℕ} {ends head next : List ℕ} {s : State} (ready : ReadyConst
           (region_from (last.searched.no_route failed') (λ S _ h. h (2 * e + 1) (omega arith))))
           (λ i q. by_place (λ x. Marked u.objects (at ends x)) e q (last.searched.grown.objects (at ends (2 * e)) (after.here failed)) (last.here failed'))
 
-      pub both_searched : found ≡ false → FromConstraint m e ends s u found' (two + (one + 1))
+      pub both_searched : found ≡ false → FromConstraint m e ends s u found' (one + 1 + two)
       both_searched failed = record {
         searched = record {
           sized = last.searched.sized;

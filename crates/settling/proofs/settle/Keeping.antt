@@ -1,17 +1,16 @@
 -- What settling keeps: after a route that was found, and after a search that found none. Assumes nothing.
-use mathlib.Core.Path.{◌≡◌, refl, ap, subst, ◌∙◌}
+use mathlib.Core.Path.{◌≡◌, ap, ◌∙◌}
 use mathlib.Core.Logic.{⊎_elim}
 use mathlib.Core.List.{List}
 use mathlib.Core.Bool.{Bool, false}
-use Prim.Native.Nat.{ℕ, ◌-◌, ◌*◌, ◌/◌, ◌<◌, ◌≤◌}
+use Prim.Native.Nat.{ℕ, ◌*◌, ◌/◌, ◌<◌}
 use native.Mathlib.Nat.{eq-zero-or-pos}
 use native.Mathlib.Omega.{arith}
 use Rattle.arrays.specs.At.{at}
 use Rattle.routes.specs.Marked.{Marked, Clear}
-use Rattle.routes.specs.State.{State, state, Sized, Grown, BothIn, both_shares}
+use Rattle.routes.specs.State.{State, state, Grown, BothIn, both_shares}
 use Rattle.routes.specs.Search.{NoRoute, Moved, FromConstraint}
 use Rattle.settling.specs.Settle.{Kept, Onward}
-use Rattle.routes.proofs.Cases.{same_or_not}
 use Rattle.routes.proofs.Sums.{counted_here, counted_off}
 use Rattle.routes.proofs.Region.{goes_earlier}
 use Rattle.routes.proofs.Moving.{bounded_moved, bounded_same, same_load}
@@ -20,9 +19,6 @@ use Rattle.routes.proofs.Moving.{bounded_moved, bounded_same, same_load}
 abbrev pub dropped : State → State → State
 dropped s u = state s.objects s.constraints u.shares u.room
 
-pub onward_same : {m : ℕ} {ends takes : List ℕ} {s : State} → Onward m ends takes s s
-onward_same = record { loads = λ v. refl; done = λ e b h. h }
-
 pub onward_then : {m : ℕ} {ends takes : List ℕ} {s t u : State} → Onward m ends takes s t → Onward m ends takes t u → Onward m ends takes s u
 onward_then g h = record {
   loads = λ v. h.loads v ∙ g.loads v;
@@ -30,7 +26,7 @@ onward_then g h = record {
 }
 
 module _ {m e : ℕ} {ends takes : List ℕ} {s u : State} (kept : Kept m ends takes s) (is : e < m) (left : both_shares s.shares e < at takes e) where
-  module _ (clear : Clear s.constraints e) (sized : Sized u) (moved : Moved m e ends s u) where
+  module _ (clear : Clear s.constraints e) (moved : Moved m e ends s u) where
     off : (x : ℕ) → Marked s.constraints x → both_shares u.shares x ≡ both_shares s.shares x
     off x h = omega (arith, moved.both_shares_are x, counted_off e x 1 (λ q. absurd (omega (arith, ap (λ (y : ℕ). at s.constraints y) q))))
 
@@ -39,12 +35,8 @@ module _ {m e : ℕ} {ends takes : List ℕ} {s u : State} (kept : Kept m ends t
 
     pub kept_moved : Kept m ends takes (dropped s u)
     kept_moved = record {
-      sized = record { objects = kept.sized.objects; constraints = kept.sized.constraints; shares = sized.shares; room = sized.room };
       bounded = bounded_moved kept.bounded moved;
-      fits = λ x b. ⊎_elim
-          (λ q. subst (λ (y : ℕ). both_shares u.shares y ≤ at takes y) q (omega (arith, moved.both_shares_are e, counted_here e e 1 refl)))
-          (λ n. omega (arith, moved.both_shares_are x, counted_off e x 1 n, kept.fits x b))
-          (same_or_not e x);
+      fits = λ x b. grind (arith, moved.both_shares_are x, counted_here, counted_off, kept.fits x b);
       closed = kept.closed;
       full = λ v h. omega (arith, moved.rooms v, kept.full v h);
       goes_on = λ k b h p. kept.goes_on k b h (same_share k b h p);
@@ -58,9 +50,6 @@ module _ {m e : ℕ} {ends takes : List ℕ} {s u : State} (kept : Kept m ends t
       loads = moved.loads;
       done = λ x b d l. d (omega (arith, moved.both_shares_are x));
     }
-
-    pub moved_less : at takes e - both_shares u.shares e < at takes e - both_shares s.shares e
-    moved_less = omega (arith, moved.both_shares_are e, counted_here e e 1 refl)
 
   module _ {found : Bool} {count : ℕ} (after : FromConstraint m e ends s u found count) (failed : found ≡ false) where
     no_route : NoRoute m ends (λ S. BothIn ends S e) s u
@@ -80,21 +69,11 @@ module _ {m e : ℕ} {ends takes : List ℕ} {s u : State} (kept : Kept m ends t
 
     pub kept_no_route : Kept m ends takes u
     kept_no_route = record {
-      sized = after.searched.sized;
       bounded = bounded_same m ends s u no_route.unmoved kept.bounded;
       fits = λ x b. omega (arith, same_both x, kept.fits x b);
-      closed = λ x b h i q. ⊎_elim
-          (λ z. no_route.closed x z h i q)
-          (λ p. grown.objects (at ends i) (kept.closed x b p i q))
-          (eq-zero-or-pos (at s.constraints x));
-      full = λ v h. ⊎_elim
-          (λ z. same_room v ∙ no_route.full v z h)
-          (λ p. same_room v ∙ kept.full v p)
-          (eq-zero-or-pos (at s.objects v));
-      goes_on = λ k b h p. let q : 0 < at s.shares k = omega (arith, same_share_of k) in ⊎_elim
-          (λ z. no_route.goes_on k b z h q)
-          (λ y. grown.constraints (k / 2) (kept.goes_on k b y q))
-          (eq-zero-or-pos (at s.objects (at ends k)));
+      closed = λ x b h i q. grind (arith, no_route.closed x, grown.objects (at ends i), kept.closed x b);
+      full = λ v h. grind (arith, same_room v, no_route.full v, kept.full v);
+      goes_on = λ k b h p. grind (arith, same_share_of k, no_route.goes_on k b, grown.constraints (k / 2), kept.goes_on k b);
       least = λ S starts goes v h. ⊎_elim
           (λ z. no_route.least S goes (starts e is after.here (omega (arith, same_both e))) v z h)
           (λ p. kept.least S

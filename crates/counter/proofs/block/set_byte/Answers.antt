@@ -1,9 +1,8 @@
--- `set_byte` meets its contract. Assumes nothing.
-use native.Mathlib.Omega.{arith}
-use Rattle.routes.specs.Marked.{members}
-use Rattle.counter.proofs.block.Writing.{byte_is}
+use borrow.Author.Rules.{rules}
+use Rattle.counter.proofs.block.Writing.{bit_laws}
 use Rattle.counter.proofs.block.set_byte.Goals as goal
+use Rattle.counter.proofs.block.set_byte.Goals.{then-marks-j-gt0, else-marks-j-gt0}
 
-pub returns : goal.returns
-returns c =
-    omega (arith, byte_is (members c.args.marks.now) c.args.j c.requires)
+pub loop-b-preserved : goal.loop-b-preserved
+loop-b-preserved c =
+    elim c.if-marks-j-gt0.branch [ then-marks-j-gt0 w ↦ rw w.byte-is (search (bit_laws, rules)) | else-marks-j-gt0 w ↦ rw w.byte-is (search (bit_laws, rules)) ]

@@ -1,12 +1,14 @@
-use Rattle.std.proofs.Common.{arith}
+use Rattle.std.proofs.Common.{arith, rules}
 use borrow.Author.Tests.{not-true, not-false}
 use Rattle.settling.proofs.settle.OneConstraint.{going_no_route, going_on}
 use Rattle.settling.proofs.settle.hand_out.Goals as goal
 
 pub returns-then-not-route : goal.returns-then-not-route
 returns-then-not-route c =
-    going_no_route c.requires c.loop-trial.invariant (omega arith) c.from_constraint-route.ensures (not-true _ c.if-not-route.true)
+    let stuck = going_no_route c.requires c.loop-before.invariant (omega arith) c.from_constraint-route.ensures (not-true _ c.if-not-route.true) in
+    search rules
 
-pub loop-trial-preserved : goal.loop-trial-preserved
-loop-trial-preserved c =
-    going_on c.requires c.loop-trial.invariant (omega arith) c.from_constraint-route.ensures (not-false _ c.if-not-route.false)
+pub loop-before-preserved : goal.loop-before-preserved
+loop-before-preserved c =
+    let on = going_on c.requires c.loop-before.invariant (omega arith) c.from_constraint-route.ensures (not-false _ c.if-not-route.false) in
+    search rules

@@ -1,15 +1,13 @@
 -- `settling::settle::hand_out` meets its contract. The invariant: the state is kept, with the marks of the start. Assumes nothing.
 use Rattle.std.proofs.Common.{◌-◌}
 use Rattle.arrays.specs.At.{at}
-use Rattle.routes.specs.State.{state, both_shares}
+use Rattle.routes.specs.State.{seen_state, both_shares}
 use Rattle.settling.proofs.settle.OneConstraint.{Going}
 use Rattle.settling.proofs.settle.hand_out.Given as goal
 
-abbrev pub invariant-loop-trial : goal.invariant-loop-trial
-invariant-loop-trial l =
-    Going l.m l.e l.ends l.takes
-    (state l.marks.objects l.initial.stuck l.initial.shares l.initial.room)
-    (state l.marks.objects l.stuck l.shares l.room)
+abbrev pub invariant-loop-before : goal.invariant-loop-before
+invariant-loop-before l =
+    Going l.chains.constraints l.e l.chains.ends l.takes (seen_state l.marks l.initial.sharing) (seen_state l.marks l.sharing)
 
-abbrev pub decreases-loop-trial : goal.decreases-loop-trial
-decreases-loop-trial l = at l.takes l.e - both_shares l.shares l.e
+abbrev pub decreases-loop-before : goal.decreases-loop-before
+decreases-loop-before l = at l.takes l.e - both_shares l.sharing.shares l.e

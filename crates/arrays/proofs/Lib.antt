@@ -1,0 +1,2 @@
+-- what other crates cite
+pub mod Stores

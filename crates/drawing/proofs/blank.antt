@@ -1,2 +1,0 @@
--- arrays of zeros
-mod Zeros

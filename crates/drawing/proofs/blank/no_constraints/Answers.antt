@@ -1,7 +1,0 @@
--- `blank::no_constraints` meets its contract: an array of zeros is zero from its start on. Assumes nothing.
-use Rattle.limits.specs.Limits.{most_constraints}
-use Rattle.drawing.proofs.blank.Zeros.{all_zero}
-use Rattle.drawing.proofs.blank.no_constraints.Goals as goal
-
-pub returns : goal.returns
-returns c = all_zero most_constraints

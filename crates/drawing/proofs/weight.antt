@@ -1,2 +1,0 @@
--- the loops that fill the arrays of weights
-mod Filled

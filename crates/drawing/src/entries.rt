@@ -1,0 +1,48 @@
+// The entries of a drawing as they are read, one after another.
+ghost use Rattle.std.specs.Prelude.{◌≡◌};
+ghost use Rattle.drawing.specs.Entry.{empty_drawing, kind_of};
+
+use crate::front::Front;
+use crate::{Constraint, Object};
+use limits::{CONSTRAINTS, OBJECTS};
+use std::marker::Model;
+
+// A drawing: its objects and its constraints, each numbered from 0.
+#[derive(Drop)]
+pub struct Entries {
+    pub objects: Front<Object, OBJECTS>,
+    pub constraints: Front<Constraint, CONSTRAINTS>,
+}
+
+impl Model for Entries {
+    ghost use Rattle.drawing.specs.Entry.{Drawing};
+
+    ghost Value = { Drawing };
+
+    ghost view = { λ e. record { objects = e.objects; constraints = e.constraints } };
+}
+
+impl Entries {
+    // The drawing in which nothing has been read.
+    pub fn new() -> Self
+        ensures { result ≡ empty_drawing }
+    {
+        Entries {
+            objects: Front::new(Object { kind: 0, stated: 0 }),
+            constraints: Front::new(Constraint {
+                kind: 0,
+                stated: 0,
+                first: 0,
+                second: 0,
+            }),
+        }
+    }
+
+    // The kind of the object that an end names, as read; 0 where there is none, as the definition has it.
+    pub fn kind_of(&self, end: u16) -> u8
+        ensures { result ≡ kind_of self.now end }
+    {
+        let objects = self.objects.as_slice();
+        objects.get(usize::from(end)).map_or(0, |o| o.kind)
+    }
+}

@@ -1,2 +1,0 @@
--- Laws of the walk that takes an object's shares back.
-mod TakingBack
