@@ -1,2 +1,2 @@
--- what a reader must believe: the numbers of the refusals and of the answers
+-- what only states contracts: the number of each refusal and of each answer of the code
 pub mod Codes

@@ -38,9 +38,9 @@ fn hand_out(
     ensures { HandedOut chains.now.constraints e chains.now.ends takes.now
         (seen_state marks sharing.old) (seen_state result sharing.new) }
 {
+    let before = sharing.stuck;
     // How many routes there are is not known before.
     while left(e, &sharing.shares, takes) != 0 {
-        let before = sharing.stuck;
         let route = from_constraint(chains, e, marks, sharing);
         if !route.found {
             return route.marks;
