@@ -76,7 +76,7 @@ declared() {
             sed "s|^|$file |"
     done
     with_ending rt | while read -r file; do
-        sed -nE -e 's/^([^<]* )?(fn|struct|enum|const) (\w+).*/\3/p' \
+        sed -nE -e 's/^([^<]* )?(fn|struct|enum|trait|const) (\w+).*/\3/p' \
             -e 's/^ *(pub )?(\w+)(: .*|\(.*\))?,$/\2/p' "$file" | sed "s|^|$file |"
     done
     with_ending edit | sed -E 's|.*/([^/]+)\.edit$|& \1|'

@@ -53,8 +53,8 @@ module _ {a : NetArrays} {sheet : List ℕ} {e : ℕ} {t : Tally} (added : Added
   pub given_small : t.given ≤ t.total
   given_small = omega (arith, added.total_is, added.given_is, sum_le e (gives (sheet_in sheet)) (at a.takes) added.fits)
 
-  load_small : (v : ℕ) → v < most_objects → at t.load v ≤ t.given
-  load_small v l =
+  load_given : (v : ℕ) → v < most_objects → at t.load v ≤ t.given
+  load_given v l =
       omega (arith, added.given_is, added.load_is v l, sum_le e (gets (net_held a) (sheet_in sheet) v) (gives (sheet_in sheet)) (λ i _. gets_le i))
     where
       gets_le : (i : ℕ) → gets (net_held a) (sheet_in sheet) v i ≤ gives (sheet_in sheet) i
@@ -64,6 +64,17 @@ module _ {a : NetArrays} {sheet : List ℕ} {e : ℕ} {t : Tally} (added : Added
             counted_le (eqb (at a.ends (2 * i)) v) (sheet_in sheet first i),
             counted_le (eqb (at a.ends (2 * i + 1)) v) (sheet_in sheet second i),
           )
+
+  -- and by how many constraints there are
+  module _ (light : (i : ℕ) → i < e → at a.takes i ≤ most_weight) where
+    pub total_light : t.total ≤ most_weight * e
+    total_light = omega (arith, added.total_is, sum_most e most_weight (at a.takes) light)
+
+    pub given_light : t.given ≤ most_weight * e
+    given_light = omega (arith, given_small, total_light)
+
+    pub load_small : (v : ℕ) → v < most_objects → at t.load v ≤ most_weight * e
+    load_small v l = omega (arith, load_given v l, given_light)
 
   -- one more: constraint e, whose two shares x and y fit its weight
   module _ (is : e < a.constraints) {x y : ℕ} (x_is : x ≡ two_at sheet (4 * e)) (y_is : y ≡ two_at sheet (4 * e + 2)) {i j weight : ℕ}
@@ -89,13 +100,13 @@ module _ {a : NetArrays} {sheet : List ℕ} {e : ℕ} {t : Tally} (added : Added
     -- none of the sums overflows
     pub first_fits : Fits w16 (at t.load v + x)
     first_fits =
-        record { fits = omega (arith, load_small v v_low, given_small, total_small (omega arith), a.fair.light_constraints e is) }
+        record { fits = omega (arith, load_given v v_low, given_small, total_small (omega arith), a.fair.light_constraints e is) }
 
     pub second_fits : Fits w16 (at one w + y)
     second_fits =
         record {
           fits =
-              omega (arith, one_at w, counted_le (eqb v w) x, load_small w w_low, given_small, total_small (omega arith), a.fair.light_constraints e is);
+              omega (arith, one_at w, counted_le (eqb v w) x, load_given w w_low, given_small, total_small (omega arith), a.fair.light_constraints e is);
         }
 
     pub total_fits : Fits w64 (t.total + weight)

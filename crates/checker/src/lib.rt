@@ -18,10 +18,10 @@ const SHARE: usize = 2;
 
 // What the constraints of a sheet come to: the sum of their weights, the sum of their shares, and what each object receives.
 #[derive(Clone, Copy)]
-struct Tally {
-    total: usize,
-    given: usize,
-    load: [u16; OBJECTS],
+pub struct Tally {
+    pub total: usize,
+    pub given: usize,
+    pub load: [u16; OBJECTS],
 }
 
 // Adds up the constraints of a sheet; None where the two shares of one exceed its weight.

@@ -25,7 +25,7 @@ abbrev pub Determines : {A : Type 0} → (Outcome → A) → Question → Type 0
 Determines part q = (d : Drawing) (o p : Outcome) → q.answer d o → q.answer d p → part o ≡ part p
 
 module _ {A : Type 0} (part : Outcome → A) (q : Question) (determined : Determines part q) where
-  outcomes_agree : (r : Reading) (o p : Outcome) → Fits q r o → Fits q r p → part o ≡ part p
+  pub outcomes_agree : (r : Reading) (o p : Outcome) → Fits q r o → Fits q r p → part o ≡ part p
   outcomes_agree (refused n) o p x y = ap part (x ∙ sym y)
   outcomes_agree (accepted d) o p x y = go (asked_fault q d) x y
     where
@@ -46,7 +46,7 @@ results_agree q determined {s} {before = before} a b = (
 
 -- ---- each question
 
-look_over_determines : (room : ℕ) → Determines (λ o. o) (look_over room)
+pub look_over_determines : (room : ℕ) → Determines (λ o. o) (look_over room)
 look_over_determines room d o p x y = x ∙ sym y
 
 blocks_agree : (d : Drawing) (c : ℕ) (o p : Outcome) → BlockOf d c o → BlockOf d c p → o ≡ p
@@ -62,7 +62,7 @@ one_constraint_determines c room d o p x y = blocks_agree d c o p x y
 lowest_clash : (d : Drawing) (k : ℤ) (c : ℕ) → LowestAbove (weighed d) k c → NoneAt (weighed d) k → ⊥
 lowest_clash d k c l none = clash_ℤ l.above (none c l.top l.is l.top_is)
 
-any_dense_determines : (k : ℤ) (room : ℕ) → Determines (λ o. o) (any_dense k room)
+pub any_dense_determines : (k : ℤ) (room : ℕ) → Determines (λ o. o) (any_dense k room)
 any_dense_determines k room d o p (inl x) (inl y) =
     blocks_agree d x.constraint o p x.block_of
     (subst (λ (c : ℕ). BlockOf d c p) (sym (lowest_one (weighed d) k x.constraint y.constraint x.lowest y.lowest)) y.block_of)
@@ -70,7 +70,7 @@ any_dense_determines k room d o p (inl x) (inr y) = absurd (lowest_clash d k x.c
 any_dense_determines k room d o p (inr x) (inl y) = absurd (lowest_clash d k y.constraint y.lowest x.none)
 any_dense_determines k room d o p (inr x) (inr y) = x.is ∙ sym y.is
 
-check_determines : (c : ℕ) (b : List ℕ) (z : ℤ) → Determines (λ o. o) (check c b z)
+pub check_determines : (c : ℕ) (b : List ℕ) (z : ℤ) → Determines (λ o. o) (check c b z)
 check_determines c b z d o p (inl (x, e)) (inl (y, f)) = e ∙ sym f
 check_determines c b z d o p (inl (x, e)) (inr (y, f)) = absurd (y x)
 check_determines c b z d o p (inr (x, e)) (inl (y, f)) = absurd (x y)
@@ -96,7 +96,7 @@ constraints_read (refused n) = 0
 constraints_read (accepted d) = length d.constraints
 
 -- every byte behind the sheet is as it was
-sheet_behind : (c : ℕ) {x : Reading} {r : ℕ} {before after : List ℕ} → Answers (sheet_for c (length before)) x r before after
+pub sheet_behind : (c : ℕ) {x : Reading} {r : ℕ} {before after : List ℕ} → Answers (sheet_for c (length before)) x r before after
     → drop (sheet_size (constraints_read x)) after ≡ drop (sheet_size (constraints_read x)) before
 sheet_behind c {x} {before = before} {after = after} a = go (came (sheet_for c (length before)) x a.outcome a.fits)
   where

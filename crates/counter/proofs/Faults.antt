@@ -43,7 +43,7 @@ range_enough k room need e = room_enough room need (passed (not (in_range k)) 10
 pub row_low : (b : Bool) (x rest : ℕ) → x < 32 → rest < 32 → pick b x rest < 32
 row_low b x rest h k = by_pick (λ (n : ℕ). n < 32) b x rest (λ _. h) (λ _. k)
 
-room_low : (room need : ℕ) → room_fault room need < 32
+pub room_low : (room need : ℕ) → room_fault room need < 32
 room_low room need = row_low (ltb room need) 12 0 (lit< tt) (lit< tt)
 
 pub number_low : (m c room need : ℕ) → number_fault m c (room_fault room need) < 32

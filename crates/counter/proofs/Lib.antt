@@ -1,5 +1,7 @@
 -- the published theorems, and what other crates cite
 pub mod Outcomes
+pub mod Sizes
+pub mod Faults
 pub mod ReadBack
 pub mod Statements
 pub mod Agree
@@ -7,6 +9,4 @@ pub mod DemandOne
 pub mod DemandTwo
 pub mod DemandThree
 -- what only the proofs of this crate use
-mod Sizes
-mod Faults
 mod Blocks

@@ -58,7 +58,7 @@ same_of true false t = absurd t
 same_of false true t = absurd t
 same_of false false t = refl
 
-bit_of : (p : Set) (k : ℕ) → k < 8 → eqb (made p / 2 ^ k % 2) 1 ≡ p k
+pub bit_of : (p : Set) (k : ℕ) → k < 8 → eqb (made p / 2 ^ k % 2) 1 ≡ p k
 unfolding bits_test
 bit_of p k l =
     same_of (eqb (made p / 2 ^ k % 2) 1) (p k)
@@ -66,7 +66,7 @@ bit_of p k l =
 
 -- ---- the set
 
-set_reads : (n c : ℕ) (t : ℤ) (S : Set) (v : ℕ) → n ≤ most_objects → v < n → set_in (block n c t S) v ≡ S v
+pub set_reads : (n c : ℕ) (t : ℤ) (S : Set) (v : ℕ) → n ≤ most_objects → v < n → set_in (block n c t S) v ≡ S v
 unfolding block set_bytes set_byte
 set_reads n c t S v few l =
     ap (λ (x : ℕ). eqb (x / 2 ^ (v % 8) % 2) 1) byte
@@ -114,7 +114,7 @@ complement_short (negsuc n) = omega arith
 joined : (x : ℕ) → x < 65536 → x % 256 + 256 * (x / 256 % 256) ≡ x
 joined x h = omega arith
 
-number_reads : (n c : ℕ) (t : ℤ) (S : Set) → c < 65536 → number_in (block n c t S) ≡ c
+pub number_reads : (n c : ℕ) (t : ℤ) (S : Set) → c < 65536 → number_in (block n c t S) ≡ c
 unfolding block two_at
 number_reads n c t S h = joined c h
 
@@ -134,7 +134,7 @@ pub sheet_front : (m : ℕ) (bytes behind : List ℕ) → length bytes ≡ sheet
 sheet_front m bytes behind long first e l = sym (two_front bytes behind (4 * e) (omega arith))
 sheet_front m bytes behind long second e l = sym (two_front bytes behind (4 * e + 2) (omega arith))
 
-block_long : (n c : ℕ) (t : ℤ) (S : Set) → length (block n c t S) ≡ block_size
+pub block_long : (n c : ℕ) (t : ℤ) (S : Set) → length (block n c t S) ≡ block_size
 unfolding block set_bytes
 block_long n c t S =
     length-append (two c ++ two (complement t)) (tabulated set_size (set_byte n S)) ∙ ap (λ (k : ℕ). 4 + k) (length_tabulated set_size (set_byte n S))

@@ -3,7 +3,7 @@ use mathlib.Core.Path.{◌≡◌, sym}
 use Prim.Native.Nat.{ℕ, suc, ◌+◌, ◌*◌, ◌≤◌, ◌<◌}
 use native.Mathlib.Omega.{arith}
 use lib.IntN.{ℤ, pos, negsuc, sub_ℕ}
-use Rattle.std.specs.Prelude.{◌≤ℤ◌}
+use Rattle.std.specs.Prelude.{List, ◌<ℤ◌}
 use Rattle.std.proofs.lemmas.Int.{ints}
 use lib.ListN.{length}
 use Rattle.density.specs.Sum.{counted}
@@ -15,11 +15,10 @@ use Rattle.density.proofs.Sums.{counted_le, sum_most}
 use Rattle.limits.specs.Limits.{most_objects, most_constraints, most_weight}
 use Rattle.drawing.specs.Entry.{Drawing}
 use Rattle.drawing.specs.Weight.{constraint_weight}
-use Rattle.arrays.specs.declared.NetArrays.{NetArrays}
-use Rattle.settling.specs.declared.answer.Solution.{Solution}
+use Rattle.routes.specs.declared.search.Marks.{Marks}
+use Rattle.settling.specs.Solved.{Solved}
 use Rattle.net.specs.Weighed.{weight_of, weighed, Within}
 use Rattle.counter.specs.declared.block.Block.{Block}
-use Rattle.counter.specs.Counting.{SolvedIn, block_from}
 
 -- a density that 16 bits hold
 pub record Short (t : ℤ) : Type 0 where
@@ -61,11 +60,17 @@ module _ (d : Drawing) (within : Within d) where
         low = omega (arith, free_small top.set);
       }
 
--- a density within the bounds of an answer, and so that of the block of an answer
-short : (t : ℤ) → sub_ℕ 0 (most_weight + most_weight) ≤ℤ t → t ≤ℤ pos (most_weight * most_constraints) → Short t
-short (pos n) low high = record { more = n; less = 0; is = sym (sub_up n 0 n (omega arith)); high = omega (arith, ints, high); low = omega arith }
-short (negsuc n) low high =
-    record { more = 0; less = suc n; is = sym (sub_down 0 (suc n) n (omega arith)); high = omega arith; low = omega (arith, ints, low) }
+-- a density above -32,768 and below 32,768, and so one that 16 bits hold
+pub record Writable (t : ℤ) : Type 0 where
+  pub low : negsuc 32767 <ℤ t
+  pub high : t <ℤ pos 32768
 
-pub writable : (a : NetArrays) (c : ℕ) (top : Solution) → SolvedIn a c top → {e : ℕ} {b : Block} → b ≡ block_from e top → Short b.density
-writable a c top solved is = rw is (short top.density solved.low solved.high)
+pub short : (t : ℤ) → Writable t → Short t
+short (pos n) w = record { more = n; less = 0; is = sym (sub_up n 0 n (omega arith)); high = omega (arith, ints, w.high); low = omega arith }
+short (negsuc n) w =
+    record { more = 0; less = suc n; is = sym (sub_down 0 (suc n) n (omega arith)); high = omega arith; low = omega (arith, ints, w.low) }
+
+-- the block of an answer can be written, whatever the arrays that it is an answer for
+module _ {n m c : ℕ} {ends weights takes objects shares : List ℕ} {t : ℤ} (solved : Solved n m c ends weights takes objects shares t) where
+  pub writable : {e : ℕ} {marks : Marks} {b : Block} → b ≡ record { constraint = e; density = t; marks = marks } → Writable b.density
+  writable is = rw is (record { low = omega (arith, ints, solved.low); high = omega (arith, ints, solved.high) })

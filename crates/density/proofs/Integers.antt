@@ -12,11 +12,11 @@ use lib.IntN.{ℤ, pos, negsuc, sub_ℕ, ◌-ℤ◌}
 use lib.Signed.{◌≤ℤ◌, ◌<ℤ◌, lt_z, lt_z_yes, lt_z_no, ≤ℤ_refl, <ℤ-≤ℤ_trans, clash_ℤ}
 
 -- a - b as antt has it: the sign, and how far from 0
-data Cut (a b : ℕ) : Type 0 where
+pub data Cut (a b : ℕ) : Type 0 where
   up : (p : ℕ) → a ≡ b + p → sub_ℕ a b ≡ pos p → Cut a b
   down : (p : ℕ) → a + suc p ≡ b → sub_ℕ a b ≡ negsuc p → Cut a b
 
-cut : (a b : ℕ) → Cut a b
+pub cut : (a b : ℕ) → Cut a b
 cut a b = go (ltb a b) refl
   where
     go : (t : Bool) → ltb a b ≡ t → Cut a b

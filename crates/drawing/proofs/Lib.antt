@@ -10,4 +10,4 @@ pub mod EitherOrder
 pub mod NoOther
 -- what only the proofs of this crate use
 mod Fronts
-mod Made
+mod Filled

@@ -7,8 +7,9 @@ pub mod Fault
 pub mod Weight
 pub mod Sound
 pub mod Samples
--- what only states contracts: the kinds as the code has them, and what the arrays of weights hold
+-- what only states contracts: the kinds as the code has them, what the arrays of weights hold, and a list with blanks behind it
 pub mod Kinds
 pub mod WeightArrays
+pub mod Padded
 -- what only states laws: a drawing at the front of two arrays
 pub mod EntryArrays

@@ -11,7 +11,6 @@ ghost use Rattle.drawing.specs.WeightArrays.{WeightsIn};
 
 use entries::Entries;
 use limits::{CONSTRAINTS, OBJECTS};
-use std::array;
 
 // An object as read: its two bytes, whatever they are. The order of faults has other faults before those of its bytes.
 #[derive(Clone, Copy)]
@@ -37,15 +36,21 @@ pub struct Weights {
     pub constraints: [u8; CONSTRAINTS],
 }
 
-// Weighs a drawing.
+// Weighs a drawing. What is past its entries stays 0, and no turn is spent on it.
+#[tactic(auto, using(crate::proofs::Filled::filled_more))]
 pub fn weigh(entries: &Entries) -> Weights
     ensures { WeightsIn entries.now result.objects result.constraints }
 {
-    // Each entry has its place.
-    prove!(entries.objects.len() <= OBJECTS);
-    prove!(entries.constraints.len() <= CONSTRAINTS);
+    let mut objects = [0; OBJECTS];
+    for i in 0..entries.objects.len() {
+        objects[i] = entries.object_weight(i);
+    }
+    let mut constraints = [0; CONSTRAINTS];
+    for e in 0..entries.constraints.len() {
+        constraints[e] = entries.constraint_weight(e);
+    }
     Weights {
-        objects: array::from_fn(|i| entries.object_weight(i)),
-        constraints: array::from_fn(|e| entries.constraint_weight(e)),
+        objects,
+        constraints,
     }
 }

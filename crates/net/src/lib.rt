@@ -1,8 +1,8 @@
 // The one door from a drawing's bytes to its net: read, or read and weighed.
 #![tactic(auto)]
 
-ghost use Rattle.std.specs.Prelude.{◌≡◌, ◌≤◌, length};
-ghost use Rattle.limits.specs.Limits.{most_objects, most_constraints};
+ghost use Rattle.std.specs.Prelude.{◌≡◌, ◌≤◌, length, replicate};
+ghost use Rattle.limits.specs.Limits.{most_objects, most_constraints, most_ends};
 ghost use Rattle.records.specs.Read.{read};
 ghost use Rattle.net.specs.NetFor.{CountsFor, NetFor, EndsOf};
 
@@ -11,7 +11,7 @@ use codes::Fault;
 use drawing::entries::Entries;
 use drawing::{Weights, weigh};
 use limits::ENDS;
-use records::read;
+use records::reader::fill;
 
 // How many objects and constraints a drawing has.
 #[derive(Clone, Copy)]
@@ -37,7 +37,8 @@ impl Counts {
 pub fn counts_of(drawing: &[u8]) -> Result<Counts, Fault>
     ensures { CountsFor (read drawing.now) result }
 {
-    let entries = read(drawing)?;
+    let mut entries = Entries::new();
+    fill(drawing, &mut entries)?;
     Ok(Counts::of(&entries))
 }
 
@@ -45,8 +46,10 @@ pub fn counts_of(drawing: &[u8]) -> Result<Counts, Fault>
 pub fn net_of(drawing: &[u8]) -> Result<NetArrays, Fault>
     ensures { NetFor (read drawing.now) result }
 {
-    let entries = read(drawing)?;
-    let ends = ends_by_place(&entries);
+    let mut entries = Entries::new();
+    fill(drawing, &mut entries)?;
+    let mut ends = [0; ENDS];
+    put_ends(&entries, &mut ends);
     let Weights {
         objects: weights,
         constraints: takes,
@@ -64,15 +67,14 @@ pub fn net_of(drawing: &[u8]) -> Result<NetArrays, Fault>
     })
 }
 
-// The ends of the constraints by place: those of constraint e at 2e and 2e + 1.
+// Puts the ends of the constraints at their places, those of constraint e at 2e and 2e + 1, into an array of zeros.
 #[tactic(auto, using(crate::proofs::Ends::ends_more))]
-fn ends_by_place(entries: &Entries) -> [u16; ENDS]
-    ensures { EndsOf entries.now result }
+fn put_ends(entries: &Entries, ends: &mut [u16; ENDS])
+    requires { ends.old ≡ replicate most_ends 0 }
+    ensures { EndsOf entries.now ends.new }
 {
-    let mut ends = [0u16; ENDS];
     for (e, c) in entries.constraints.as_slice().iter().enumerate() {
         ends[2 * e] = c.first;
         ends[2 * e + 1] = c.second;
     }
-    ends
 }

@@ -12,11 +12,11 @@ use Rattle.records.specs.Format.{head_size, body_length, head_fault, record_kind
 use Rattle.records.specs.Format.{Record, faulty, object, constraint, end, record_at}
 use Rattle.drawing.proofs.Choice.{passed, by_pick, row_bounds}
 
-record Whole (s : List ℕ) (at : ℕ) : Type 0 where
-  head : at + head_size ≤ length s
-  body : next_record at (record_kind s at) ≤ length s
+pub record Whole (s : List ℕ) (at : ℕ) : Type 0 where
+  pub head : at + head_size ≤ length s
+  pub body : next_record at (record_kind s at) ≤ length s
 
-whole : (s : List ℕ) (at : ℕ) → head_fault s at ≡ 0 → Whole s at
+pub whole : (s : List ℕ) (at : ℕ) → head_fault s at ≡ 0 → Whole s at
 unfolding head_fault
 whole s at e =
     let head = passed _ _ _ (lit< tt) e in
@@ -26,10 +26,10 @@ whole s at e =
     record { head = ltb-false _ _ head.failed; body = ltb-false _ _ body.failed }
 
 -- of a record of a known kind, the body is there
-body_there : (s : List ℕ) (at kind : ℕ) → head_fault s at ≡ 0 → record_kind s at ≡ kind → next_record at kind ≤ length s
+pub body_there : (s : List ℕ) (at kind : ℕ) → head_fault s at ≡ 0 → record_kind s at ≡ kind → next_record at kind ≤ length s
 body_there s at kind e k = subst (λ (n : ℕ). next_record at n ≤ length s) k (whole s at e).body
 
-end_there : (s : List ℕ) (at : ℕ) → head_fault s at ≡ 0 → next_record at an_end ≤ length s
+pub end_there : (s : List ℕ) (at : ℕ) → head_fault s at ≡ 0 → next_record at an_end ≤ length s
 unfolding body_length pick
 end_there s at e = omega (arith, (whole s at e).head)
 

@@ -34,3 +34,8 @@ meant (Err f) = faulty (fault_number f)
 abbrev pub reading_of : Result Drawing Fault → Reading
 reading_of (Ok d) = accepted d
 reading_of (Err f) = refused (fault_number f)
+
+-- the same, where the entries are lent
+abbrev pub filling_of : {A : Type 0} → Result A Fault → Drawing → Reading
+filling_of (Ok _) d = accepted d
+filling_of (Err f) _ = refused (fault_number f)

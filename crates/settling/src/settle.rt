@@ -22,7 +22,8 @@ fn needs_route(e: usize, takes: &[u8; CONSTRAINTS], sharing: &Sharing) -> bool
     requires { WithinWeight e takes.now sharing.now.shares }
     ensures { NeedsRoute e takes.now sharing.now.stuck sharing.now.shares result }
 {
-    left(e, &sharing.shares, takes) != 0 && sharing.stuck[e] == 0
+    // One test of both: any dense asks it of every constraint for every constraint, and a machine does not foresee what is left.
+    (left(e, &sharing.shares, takes) != 0) & (sharing.stuck[e] == 0)
 }
 
 // Constraint e hands out what weight it has left. The marks of a search that found a route are dropped; those of one that

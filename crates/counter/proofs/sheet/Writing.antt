@@ -38,7 +38,7 @@ pub none_written : (shares before : List ℕ) → SharesWritten 0 shares before 
 none_written shares before = record { long = refl; rest = refl; share_is = λ i l. absurd (omega arith) }
 
 pub one_written : {k x : ℕ} {shares before after next : List ℕ} → SharesWritten k shares before after → 2 * k + 1 < length before
-    → x ≡ at shares k → ((i : ℕ) → at shares i < 65536) → next ≡ set (set after (2 * k) (x % 256)) (2 * k + 1) (x / 256 % 256) → SharesWritten (k + 1) shares before next
+    → x ≡ at shares k → x < 65536 → next ≡ set (set after (2 * k) (x % 256)) (2 * k + 1) (x / 256 % 256) → SharesWritten (k + 1) shares before next
 one_written {k} {x} {shares} {before} {after} w room is small e =
     record {
       long = ap length e ∙ simp length-set w.long;
@@ -52,7 +52,7 @@ one_written {k} {x} {shares} {before} {after} w room is small e =
       share_is = rw e
           (below_more (λ i. two_at (set (set after (2 * k) (x % 256)) (2 * k + 1) (x / 256 % 256)) (2 * i) ≡ at shares i) k
           (λ i h. two_beside after (2 * k) (2 * i) (x % 256) (x / 256 % 256) (omega arith) ∙ w.share_is i h)
-          (two_back after (2 * k) x (omega (arith, w.long)) (omega (arith, small k)) ∙ is));
+          (two_back after (2 * k) x (omega (arith, w.long)) small ∙ is));
     }
   where
     two_more : 2 * (k + 1) ≡ 2 * k + 2

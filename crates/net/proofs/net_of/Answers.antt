@@ -5,10 +5,10 @@ use Rattle.net.proofs.net_of.Goals as goal
 
 pub invariant_of-result : goal.invariant_of-result
 invariant_of-result c = record {
-  fair = fair _ _ c.in_ok-entries.ensures c.ends_by_place-ends.ensures c.weigh.ensures c.of-objects.ensures.objects c.of-objects.ensures.constraints;
+  fair = fair _ _ c.in_ok-fill.ensures c.put_ends.ensures c.weigh.ensures c.of-objects.ensures.objects c.of-objects.ensures.constraints;
 }
 
 pub returns : goal.returns
 returns c =
-    held _ _ c.in_ok-entries.ensures c.ends_by_place-ends.ensures c.weigh.ensures c.of-objects.ensures.objects c.of-objects.ensures.constraints
+    held _ _ c.in_ok-fill.ensures c.put_ends.ensures c.weigh.ensures c.of-objects.ensures.objects c.of-objects.ensures.constraints
     refl refl refl refl refl

@@ -35,7 +35,7 @@ by_fault zero x h = absurd (omega arith)
 by_fault (suc n) x h = refl
 
 module _ {s : List ℕ} {at : ℕ} {d : Drawing} (here : Stands s at d) where
-  leads : (r : Record) → r ≡ record_at s at → read s ≡ read_on s at d r (read_from (suc (length s)) s)
+  pub leads : (r : Record) → r ≡ record_at s at → read s ≡ read_on s at d r (read_from (suc (length s)) s)
   leads r e = here.so_far ∙ turn s at d ∙ ap (λ (x : Record). read_on s at d x (read_from (suc (length s)) s)) (sym e)
 
   facts : (r : Record) → r ≡ record_at s at → RecordFacts s at r

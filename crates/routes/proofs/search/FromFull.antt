@@ -88,7 +88,7 @@ module _ {m i v : ℕ} {ends head next : List ℕ} {s t : State} {left count : �
     k_marked : Marked t.objects (at ends k)
     k_marked = subst (λ (x : ℕ). Marked t.objects x) (sym k_at) marked_t
 
-    walk_place : k < most_ends
+    pub walk_place : k < most_ends
     walk_place = turn_place chained walk.on turn
 
     covered_on : (u : State) {left' : ℕ} → left' ≡ at next k → Grown t u → (0 < at t.shares k → Marked u.constraints (k / 2))

@@ -8,4 +8,4 @@ use Rattle.counter.proofs.sheet.put_sheet.Goals as goal
 pub loop-i-preserved : goal.loop-i-preserved
 loop-i-preserved c =
     let is = get_or-take (2 * c.args.m) c.args.shares.now c.loop-i.i 0 (omega arith) in
-    one_written c.loop-i.invariant (omega arith) (c.from.ensures ∙ is) c.fits-shares c.put_two.ensures
+    one_written c.loop-i.invariant (omega arith) (c.from.ensures ∙ is) (rw (c.from.ensures ∙ is) (c.fits-shares c.loop-i.i)) c.put_two.ensures

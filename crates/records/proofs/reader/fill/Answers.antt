@@ -1,7 +1,7 @@
--- `reader::read` meets its contract: behind an object, and behind a constraint, reading stands where the next record starts. Assumes nothing.
+-- `reader::fill` meets its contract: behind an object, and behind a constraint, reading stands where the next record starts. Assumes nothing.
 use native.Mathlib.Omega.{arith}
 use Rattle.records.proofs.reader.Turn.{behind_object, behind_constraint}
-use Rattle.records.proofs.reader.read.Goals as goal
+use Rattle.records.proofs.reader.fill.Goals as goal
 
 pub loop-o-preserved-in-Object : goal.loop-o-preserved-in-Object
 loop-o-preserved-in-Object c =
