@@ -46,7 +46,7 @@ module _ (n m : ℕ) (objects : List Object) (constraints : List Constraint) whe
             ∙ sym (tidy.objects_past i (omega arith))
       ])
 
--- what stands at the front of an array, number by number, is what contracts see of a `Front`
+-- what stands at the front of an array, number by number, is what contracts see of a `Padded`
 front_is : {A : Type 0} (n : ℕ) (l : List A) (d : A) → n ≤ length l → tabulated n (λ i. get_or l i d) ≡ take n l
 front_is n l d few =
     ext_get_or d (tabulated n (λ i. get_or l i d)) (take n l) (length_tabulated n (λ i. get_or l i d) ∙ sym (length-take-le n l few))

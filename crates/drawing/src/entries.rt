@@ -2,7 +2,8 @@
 ghost use Rattle.std.specs.Prelude.{◌≡◌};
 ghost use Rattle.drawing.specs.Entry.{empty_drawing, kind_of};
 
-use crate::front::{Front, Item};
+use crate::front::Item;
+use crate::padded::Padded;
 use crate::{Constraint, Object};
 use limits::{CONSTRAINTS, OBJECTS};
 use std::marker::Model;
@@ -10,8 +11,8 @@ use std::marker::Model;
 // A drawing: its objects and its constraints, each numbered from 0.
 #[derive(Clone, Copy)]
 pub struct Entries {
-    pub objects: Front<Object, OBJECTS>,
-    pub constraints: Front<Constraint, CONSTRAINTS>,
+    pub objects: Padded<Object, OBJECTS>,
+    pub constraints: Padded<Constraint, CONSTRAINTS>,
 }
 
 impl Item for Object {
@@ -55,8 +56,8 @@ impl Entries {
         ensures { result ≡ empty_drawing }
     {
         Entries {
-            objects: Front::new(),
-            constraints: Front::new(),
+            objects: Padded::new(),
+            constraints: Padded::new(),
         }
     }
 

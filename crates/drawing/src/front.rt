@@ -1,10 +1,9 @@
 // A list of at most N items, at the front of an array: there is no heap, and a list of the kit's would be one thing more to trust.
-ghost use Rattle.std.specs.Prelude.{◌≡◌, ◌<◌, ◌≤◌, ◌++◌, ◌∷◌, [], ⊤, length};
+ghost use Rattle.std.specs.Prelude.{◌≡◌, ◌<◌, ◌≤◌, ◌++◌, ◌∷◌, [], length};
 
-use std::alloc::AllocError;
 use std::marker::Model;
 
-// An item, and what stands in the array where no item does.
+// An item of a `Padded`, and what stands in the array where no item does.
 pub trait Item: Copy {
     ghost blank: { Self };
 
@@ -12,51 +11,30 @@ pub trait Item: Copy {
         ensures { result ≡ blank };
 }
 
-// Contracts see the list. What is past the items is blank, so that the list gives the array back, and a list may be copied.
-#[derive(Copy)]
-pub struct Front<T: Item, const N: usize> {
+// Contracts see the list, and nothing of what is past it. Where that has to be known, as in a list that may be copied, it is a `Padded`,
+// as the two of a drawing are.
+#[derive(Drop)]
+pub struct Front<T: Copy, const N: usize> {
     count: usize,
     items: [T; N],
 }
 
-impl<T: Item, const N: usize> Model for Front<T, N> {
+impl<T: Copy, const N: usize> Model for Front<T, N> {
     ghost use Rattle.std.specs.Prelude.{◌≡◌, ◌≤◌, List, length, take};
-    ghost use Rattle.std.proofs.Common.{length-take-le, subst, sym};
-    ghost use Rattle.drawing.specs.Padded.{padded};
 
     ghost Value = { List T };
 
     ghost view = { λ f. take f.count f.items };
 
-    ghost invariant = { λ f. (f.count ≤ N) × (length f.items ≡ N) × (padded T.blank N (take f.count f.items) ≡ f.items) };
-
-    ghost inverse = { λ l. record { count = length l; items = padded T.blank N l } };
-
-    ghost inverse_ok = { λ f h i. record {
-      count = length-take-le f.count f.items (subst (λ n. f.count ≤ n) (sym h.1) h.0) i;
-      items = h.2 i;
-    } };
-}
-
-impl<T: Item, const N: usize> Clone for Front<T, N> {
-    ghost is_clone = { λ f g. g ≡ f };
-
-    ghost is_infallible = { λ _. ⊤ };
-
-    fn clone(&self) -> Result<Self, AllocError> {
-        Ok(*self)
-    }
+    ghost invariant = { λ f. (f.count ≤ N) × (length f.items ≡ N) };
 }
 
 #[tactic(auto, using(crate::proofs::Fronts::fronts))]
-impl<T: Item, const N: usize> Front<T, N> {
-    ghost use Rattle.drawing.specs.Padded.{padded};
-
-    // The empty list.
-    pub fn new() -> Self
+impl<T: Copy, const N: usize> Front<T, N> {
+    // The empty list. What is past the items is blank.
+    pub fn new(blank: T) -> Self
         ensures { result ≡ [] }
     {
-        let blank = T::blank();
         Front {
             count: 0,
             items: [blank; N],
@@ -84,11 +62,21 @@ impl<T: Item, const N: usize> Front<T, N> {
     {
         &self.items[..self.count]
     }
+}
 
-    // The whole array: the items, and the blanks behind them.
-    pub fn as_array(&self) -> &[T; N]
-        ensures { result.now ≡ padded T.blank N self.now }
-    {
-        &self.items
+#[cfg(test)]
+mod tests {
+    use super::*;
+
+    #[test]
+    fn holds_what_is_pushed(rt: HostRuntime) {
+        let mut list = Front::<u8, 3>::new(7);
+        assert_eq!(rt; list.len(), 0);
+        list.push(0);
+        list.push(7);
+        assert_eq!(rt; list.as_slice(), [0, 7].as_slice());
+        list.push(255);
+        assert_eq!(rt; list.len(), 3);
+        assert_eq!(rt; list.as_slice(), [0, 7, 255].as_slice());
     }
 }

@@ -4,6 +4,7 @@
 pub mod entries;
 pub mod fault;
 pub mod front;
+pub mod padded;
 pub mod table;
 pub mod weight;
 

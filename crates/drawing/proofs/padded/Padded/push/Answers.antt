@@ -1,6 +1,6 @@
 -- `push` meets its contract: the item takes the place of the first blank. Assumes nothing.
 use Rattle.std.proofs.Common.{ap, arith, length}
-use Rattle.drawing.proofs.front.Front.push.Goals as goal
+use Rattle.drawing.proofs.padded.Padded.push.Goals as goal
 use Rattle.drawing.proofs.Fronts.{front_pushed}
 
 pub invariant_of-self : goal.invariant_of-self
